@@ -1,0 +1,5 @@
+pub mod ByTable
+pub mod Closing
+pub mod Damage
+pub mod Linear
+pub mod Xor

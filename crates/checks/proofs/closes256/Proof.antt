@@ -1,0 +1,25 @@
+-- `checks::closes256` meets its contract: what the low 16 bits of the sum leave modulo 256 is what the sum leaves.
+-- Assumes nothing.
+use Prim.Native.Nat.{ℕ, _+_, _%_}
+use mathlib.Core.Path.{_≡_, ap}
+use native.Mathlib.Omega.{arith}
+use lib.Dec.{eqb}
+use Rattle.checks.specs.Sums.{total}
+use borrow.Author.Needs.{needs}
+use Rattle.checks.proofs.closes256.Statement.{statement}
+use Rattle.checks.proofs.closes256.Tie as tie
+
+sum-low-requires : tie.Need-sum-low-requires
+sum-low-requires c κs = search needs
+
+add-result : tie.Need-add-result
+add-result c = search needs
+
+returns : tie.Need-returns
+returns c =
+    let a = c .before .before .args in
+    let e : (c .sum-low .result + a .check) % 256 ≡ (total (a .s .now) + a .check) % 256 = omega arith in
+    ap (λ (x : ℕ). eqb x 0) e
+
+pub closes256-spec : {M : Type 1} → statement M
+closes256-spec = tie.close (tie.spec sum-low-requires add-result returns)

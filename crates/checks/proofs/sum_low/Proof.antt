@@ -1,0 +1,67 @@
+-- `checks::sum_low` meets its contract. The loop's invariant: the sum so far with what is left is the whole sum, modulo 65,536.
+-- Assumes nothing.
+use Prim.Native.Nat.{ℕ, _+_, _-_, _%_, _≤_, _<_}
+use mathlib.Core.Path.{_≡_, ap}
+use native.Mathlib.Omega.{arith}
+use lib.ListN.{length, drop}
+use borrow.Author.Needs.{needs}
+use Rattle.laws.proofs.Walk.{left-next, left-none}
+use Rattle.checks.specs.Sums.{total}
+use Rattle.checks.proofs.sum_low.Statement.{statement}
+use Rattle.checks.proofs.sum_low.Tie as tie
+
+abbrev Inv-loop : tie.InvT-loop
+Inv-loop s t₀ i₀ t i = (i ≤ length s) × (t < 65536) × ((t + total (drop i s)) % 65536 ≡ total s % 65536)
+
+abbrev μ-loop : tie.MeasureT-loop
+μ-loop s t₀ i₀ t i = length s - i
+
+loop-holds : tie.Need-loop-holds Inv-loop μ-loop
+loop-holds c = (omega arith, omega arith, omega arith)
+
+shared-slice-read-wide : tie.Need-shared-slice-read-wide Inv-loop μ-loop
+shared-slice-read-wide c = search needs
+
+wide-requires : tie.Need-wide-requires Inv-loop μ-loop
+wide-requires c κs = search needs
+
+add-t : tie.Need-add-t Inv-loop μ-loop
+add-t c = omega (arith, c .before .shared-slice-known2 .given (c .before .before .before .loop .i))
+
+add-i : tie.Need-add-i Inv-loop μ-loop
+add-i c = search needs
+
+loop-less : tie.Need-loop-less Inv-loop μ-loop
+loop-less c = omega arith
+
+loop-again : tie.Need-loop-again Inv-loop μ-loop
+unfolding total
+loop-again c =
+    let s = c .before .before .before .before .before .args .s .now in
+    let l = c .before .before .before .loop in
+    let h : l .i < length s = omega arith in
+    let next = ap total (left-next s (l .i) h) in (omega arith, omega arith, omega arith)
+
+returns : tie.Need-returns Inv-loop μ-loop
+unfolding total
+returns c =
+    let s = c .before .before .before .args .s .now in
+    let l = c .before .loop in
+    let h : length s ≤ l .i = omega arith in
+    let none = ap total (left-none s (l .i) h) in
+    omega arith
+
+pub sum-low-spec : {M : Type 1} → statement M
+sum-low-spec =
+    tie.close
+    (tie.spec
+    Inv-loop
+    μ-loop
+    loop-holds
+    shared-slice-read-wide
+    wide-requires
+    add-t
+    add-i
+    loop-less
+    loop-again
+    returns)
