@@ -1,7 +1,7 @@
 //! The console's lines, each handed to the module of its first word (docs/CONSOLE.md).
 
-use crate::checks;
 use crate::line::{Line, NoCall, Words};
+use crate::{checks, pathfinder};
 
 /// What lives on from one line to the next.
 #[derive(Default)]
@@ -23,6 +23,7 @@ impl Console {
     fn call(&mut self, words: &Words) -> Result<String, NoCall> {
         match words.at(0)? {
             b"check" => checks::answer(words),
+            b"pf" => pathfinder::answer(words),
             _ => Err(NoCall::UnknownWord),
         }
     }

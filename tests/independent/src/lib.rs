@@ -6,5 +6,8 @@
 
 pub mod checks;
 pub mod console;
+pub mod examples;
 pub mod generator;
 pub mod line;
+pub mod pathfinder;
+pub mod refusal;

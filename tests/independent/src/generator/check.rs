@@ -298,38 +298,23 @@ fn limits(sample: &mut Sample) {
 
 #[cfg(test)]
 mod tests {
-    use crate::console::Console;
-    use crate::generator;
-    use crate::line::Splitter;
-    use std::collections::BTreeSet;
+    use crate::generator::tests::assert_kinds;
 
     #[test]
     fn the_lines_reach_every_answer() {
-        let areas = generator::areas(&["check".to_string()]).unwrap();
-        let mut input = Vec::new();
-        generator::generate(20_000, 2, &areas, &mut input).unwrap();
-        let mut console = Console::default();
-        let mut kinds = BTreeSet::new();
-        Splitter::default().feed(&input, |line| {
-            let answer = console.answer(line).unwrap_or_default();
-            let kind = if answer.starts_with('?') {
-                answer
-            } else {
-                answer.split(' ').take(2).collect::<Vec<_>>().join(" ")
-            };
-            kinds.insert(kind);
-        });
-        let expected = [
-            "",
-            "? line too long",
-            "? not hex",
-            "? too few words",
-            "? too many words",
-            "? unknown word",
-            "ok crc",
-            "ok sum16",
-            "ok sum8",
-        ];
-        assert_eq!(kinds, expected.map(String::from).into());
+        assert_kinds(
+            "check",
+            30_000,
+            &[
+                "? line too long",
+                "? not hex",
+                "? too few words",
+                "? too many words",
+                "? unknown word",
+                "check crc: ok crc",
+                "check sum16: ok sum16",
+                "check sum8: ok sum8",
+            ],
+        );
     }
 }

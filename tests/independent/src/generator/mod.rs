@@ -3,6 +3,7 @@
 
 mod check;
 pub mod lines;
+mod pathfinder;
 pub mod random;
 
 use lines::Draft;
@@ -13,7 +14,7 @@ use std::io::{self, Write};
 pub const DEFAULT: &[&str] = &["check"];
 
 /// Every area there is.
-const AREAS: &[Area] = &[check::AREA];
+const AREAS: &[Area] = &[check::AREA, pathfinder::AREA];
 
 /// The seed of the sample's lines and how many of them each area has.
 const SAMPLE_SEED: u64 = 1;
@@ -62,7 +63,7 @@ pub fn generate(count: u64, seed: u64, areas: &[&Area], output: &mut impl Write)
     for place in 1..=count {
         let run = random.below(runs.len());
         let mut line = line(runs[run].as_mut(), &mut random);
-        if place == count && seed % 3 == 0 {
+        if place == count && seed.is_multiple_of(3) {
             line.pop();
         }
         output.write_all(&line)?;
@@ -117,4 +118,63 @@ pub fn sample(areas: &[&Area], output: &mut impl Write) -> io::Result<()> {
         }
     }
     Ok(())
+}
+
+#[cfg(test)]
+mod tests {
+    use super::*;
+    use crate::console::Console;
+    use crate::line::Splitter;
+    use std::collections::BTreeMap;
+
+    #[test]
+    fn the_sample_is_short_enough_to_keep() {
+        let every: Vec<&Area> = AREAS.iter().collect();
+        let mut printed = Vec::new();
+        sample(&every, &mut printed).unwrap();
+        assert!(printed.len() < 1_500_000);
+    }
+
+    /// How often each kind of answer comes to the random lines of an area. The kind is the call's two first words and
+    /// the answer's first two, or the whole of a refusal or of an answer to no call.
+    pub fn kinds(area: &str, count: u64) -> BTreeMap<String, usize> {
+        let areas = areas(&[area.to_string()]).unwrap();
+        let mut input = Vec::new();
+        generate(count, 2, &areas, &mut input).unwrap();
+        let mut console = Console::default();
+        let mut kinds = BTreeMap::new();
+        Splitter::default().feed(&input, |line| {
+            let call = match line {
+                crate::line::Line::Bytes(bytes) => String::from_utf8_lossy(bytes).to_string(),
+                crate::line::Line::TooLong => String::new(),
+            };
+            let Some(answer) = console.answer(line) else {
+                return;
+            };
+            let first = |text: &str, count: usize| {
+                let words = text.split(' ').filter(|word| !word.is_empty());
+                words.take(count).collect::<Vec<_>>().join(" ")
+            };
+            let kind = if answer.starts_with('?') {
+                answer
+            } else {
+                format!("{}: {}", first(&call, 2), first(&answer, 2))
+            };
+            *kinds.entry(kind).or_default() += 1;
+        });
+        kinds
+    }
+
+    /// Fails unless each of these kinds comes at least three times and no other kind at all, but for the check lines
+    /// that every area has among its long ones.
+    pub fn assert_kinds(area: &str, count: u64, expected: &[&str]) {
+        let found = kinds(area, count);
+        for kind in expected {
+            let times = found.get(*kind).copied().unwrap_or(0);
+            assert!(times >= 3, "{kind} comes {times} times");
+        }
+        for kind in found.keys().filter(|kind| !kind.starts_with("check ")) {
+            assert!(expected.contains(&kind.as_str()), "{kind} is not expected");
+        }
+    }
 }

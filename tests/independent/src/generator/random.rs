@@ -12,12 +12,12 @@ impl Random {
     /// A source of its own for a name, so that one area's lines do not depend on another's.
     pub fn named(seed: u64, name: &str) -> Random {
         let mixed = name.bytes().fold(seed, |mixed, byte| {
-            Random(mixed ^ u64::from(byte)).next().rotate_left(7)
+            Random(mixed ^ u64::from(byte)).draw().rotate_left(7)
         });
         Random(mixed)
     }
 
-    pub fn next(&mut self) -> u64 {
+    pub fn draw(&mut self) -> u64 {
         self.0 = self.0.wrapping_add(0x9E37_79B9_7F4A_7C15);
         let mut mixed = self.0;
         mixed = (mixed ^ (mixed >> 30)).wrapping_mul(0xBF58_476D_1CE4_E5B9);
@@ -27,12 +27,12 @@ impl Random {
 
     /// A number below a limit that is not 0. The small lean towards low numbers does not matter here.
     pub fn below(&mut self, limit: usize) -> usize {
-        (self.next() % limit as u64) as usize
+        (self.draw() % limit as u64) as usize
     }
 
     /// A number from one to another, both included.
     pub fn within(&mut self, least: i64, most: i64) -> i64 {
-        least + (self.next() % (most - least + 1) as u64) as i64
+        least + (self.draw() % (most - least + 1) as u64) as i64
     }
 
     /// True once in so many times.
@@ -45,7 +45,7 @@ impl Random {
     }
 
     pub fn byte(&mut self) -> u8 {
-        self.next() as u8
+        self.draw() as u8
     }
 
     pub fn bytes(&mut self, count: usize) -> Vec<u8> {
@@ -60,6 +60,37 @@ impl Random {
                 return byte;
             }
         }
+    }
+
+    /// A length near another: a little less or more, none, or any up to twice as much, but not that length itself.
+    pub fn length_but(&mut self, not: usize) -> usize {
+        loop {
+            let length = match self.below(4) {
+                0 => (not + self.below(3)).saturating_sub(1),
+                1 => (not + self.below(9)).saturating_sub(4),
+                2 => 0,
+                _ => self.below(2 * not + 2),
+            };
+            if length != not {
+                return length;
+            }
+        }
+    }
+
+    /// ROOM for a call that needs so much: enough, or too little if that is possible.
+    pub fn room(&mut self, needed: usize, too_little: bool) -> i64 {
+        let room = match self.below(4) {
+            _ if too_little && needed > 0 => match self.below(3) {
+                0 => needed - 1,
+                1 => 0,
+                _ => self.below(needed),
+            },
+            0 => needed,
+            1 => needed + 1,
+            2 => 8192,
+            _ => needed + self.below(300),
+        };
+        room as i64
     }
 
     /// Which errors a line shall have: none, one, two or three of those named.
