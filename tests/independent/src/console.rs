@@ -1,7 +1,7 @@
 //! The console's lines, each handed to the module of its first word (docs/CONSOLE.md).
 
 use crate::line::{Line, NoCall, Words};
-use crate::{checks, pathfinder};
+use crate::{checks, pathfinder, tongzhu};
 
 /// What lives on from one line to the next.
 #[derive(Default)]
@@ -24,6 +24,7 @@ impl Console {
         match words.at(0)? {
             b"check" => checks::answer(words),
             b"pf" => pathfinder::answer(words),
+            b"tz" => tongzhu::answer(words),
             _ => Err(NoCall::UnknownWord),
         }
     }

@@ -7,7 +7,9 @@
 pub mod checks;
 pub mod console;
 pub mod examples;
+pub mod fields;
 pub mod generator;
 pub mod line;
 pub mod pathfinder;
 pub mod refusal;
+pub mod tongzhu;

@@ -5,6 +5,7 @@ mod check;
 pub mod lines;
 mod pathfinder;
 pub mod random;
+mod tongzhu;
 
 use lines::Draft;
 use random::Random;
@@ -14,7 +15,7 @@ use std::io::{self, Write};
 pub const DEFAULT: &[&str] = &["check"];
 
 /// Every area there is.
-const AREAS: &[Area] = &[check::AREA, pathfinder::AREA];
+const AREAS: &[Area] = &[check::AREA, pathfinder::AREA, tongzhu::AREA];
 
 /// The seed of the sample's lines and how many of them each area has.
 const SAMPLE_SEED: u64 = 1;
