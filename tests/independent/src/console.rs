@@ -1,7 +1,7 @@
 //! The console's lines, each handed to the module of its first word (docs/CONSOLE.md).
 
 use crate::line::{Line, NoCall, Words};
-use crate::{checks, pathfinder, tongzhu};
+use crate::{checks, pace, pathfinder, tongzhu};
 
 /// What lives on from one line to the next.
 #[derive(Default)]
@@ -25,6 +25,7 @@ impl Console {
             b"check" => checks::answer(words),
             b"pf" => pathfinder::answer(words),
             b"tz" => tongzhu::answer(words),
+            b"pace" => pace::answer(words),
             _ => Err(NoCall::UnknownWord),
         }
     }

@@ -131,7 +131,7 @@ impl<'a> Words<'a> {
         if word == b"-" {
             return Ok(Vec::new());
         }
-        if word.len() % 2 != 0 {
+        if !word.len().is_multiple_of(2) {
             return Err(NoCall::NotHex);
         }
         word.chunks(2).map(byte_of).collect()

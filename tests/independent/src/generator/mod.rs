@@ -3,6 +3,7 @@
 
 mod check;
 pub mod lines;
+mod pace;
 mod pathfinder;
 pub mod random;
 mod tongzhu;
@@ -15,7 +16,7 @@ use std::io::{self, Write};
 pub const DEFAULT: &[&str] = &["check"];
 
 /// Every area there is.
-const AREAS: &[Area] = &[check::AREA, pathfinder::AREA, tongzhu::AREA];
+const AREAS: &[Area] = &[check::AREA, pathfinder::AREA, tongzhu::AREA, pace::AREA];
 
 /// The seed of the sample's lines and how many of them each area has.
 const SAMPLE_SEED: u64 = 1;
@@ -91,10 +92,11 @@ fn line(run: &mut dyn Drafts, random: &mut Random) -> Vec<u8> {
 pub struct Sample(Vec<u8>);
 
 impl Sample {
-    /// Adds a line with the comment above it.
+    /// Adds a line with the comment above it, or below the one there is if the comment is empty.
     pub fn show(&mut self, comment: &str, line: impl AsRef<[u8]>) {
-        self.0
-            .extend_from_slice(format!("# {comment}\n").as_bytes());
+        if !comment.is_empty() {
+            self.more(format!("# {comment}"));
+        }
         self.more(line);
     }
 

@@ -418,12 +418,10 @@ fn replies(sample: &mut Sample) {
 
 fn refused_replies(sample: &mut Sample) {
     let mut read = |comment: &str, asked: u8, room: usize, input: &[u8]| {
-        let line = format!("pf read {asked:02X} {room} {}", hex(input));
-        if comment.is_empty() {
-            sample.more(line);
-        } else {
-            sample.show(comment, line);
-        }
+        sample.show(
+            comment,
+            format!("pf read {asked:02X} {room} {}", hex(input)),
+        );
     };
     let changed = |changes: &[(usize, u8)]| {
         let mut input = frame(0x05, b"PATHFINDER BMS");

@@ -338,12 +338,7 @@ fn monitor(cells: usize, cell_sensors: usize, mos_sensors: usize) -> Vec<u8> {
 
 fn refused_replies(sample: &mut Sample) {
     let mut read = |comment: &str, asked: u8, input: &[u8]| {
-        let line = format!("tz read {asked:02X} {}", hex(input));
-        if comment.is_empty() {
-            sample.more(line);
-        } else {
-            sample.show(comment, line);
-        }
+        sample.show(comment, format!("tz read {asked:02X} {}", hex(input)));
     };
     let status = frame(0x14, &[1, 0, 0, 0]);
     // The frame with some bytes changed, its check made right again.
