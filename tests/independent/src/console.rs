@@ -1,7 +1,7 @@
 //! The console's lines, each handed to the module of its first word (docs/CONSOLE.md).
 
 use crate::line::{Line, NoCall, Words};
-use crate::{checks, pace, pathfinder, tongzhu};
+use crate::{checks, old58, pace, pathfinder, tongzhu};
 
 /// What lives on from one line to the next.
 #[derive(Default)]
@@ -26,6 +26,7 @@ impl Console {
             b"pf" => pathfinder::answer(words),
             b"tz" => tongzhu::answer(words),
             b"pace" => pace::answer(words),
+            b"old" => old58::answer(words),
             _ => Err(NoCall::UnknownWord),
         }
     }

@@ -10,6 +10,7 @@ pub mod examples;
 pub mod fields;
 pub mod generator;
 pub mod line;
+pub mod old58;
 pub mod pace;
 pub mod pathfinder;
 pub mod refusal;

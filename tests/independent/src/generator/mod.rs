@@ -3,6 +3,7 @@
 
 mod check;
 pub mod lines;
+mod old58;
 mod pace;
 mod pathfinder;
 pub mod random;
@@ -16,7 +17,13 @@ use std::io::{self, Write};
 pub const DEFAULT: &[&str] = &["check"];
 
 /// Every area there is.
-const AREAS: &[Area] = &[check::AREA, pathfinder::AREA, tongzhu::AREA, pace::AREA];
+const AREAS: &[Area] = &[
+    check::AREA,
+    pathfinder::AREA,
+    tongzhu::AREA,
+    pace::AREA,
+    old58::AREA,
+];
 
 /// The seed of the sample's lines and how many of them each area has.
 const SAMPLE_SEED: u64 = 1;
