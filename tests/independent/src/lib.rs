@@ -14,4 +14,5 @@ pub mod old58;
 pub mod pace;
 pub mod pathfinder;
 pub mod refusal;
+pub mod restore;
 pub mod tongzhu;

@@ -7,6 +7,7 @@ mod old58;
 mod pace;
 mod pathfinder;
 pub mod random;
+pub mod restore;
 mod tongzhu;
 
 use lines::Draft;
@@ -23,6 +24,7 @@ const AREAS: &[Area] = &[
     tongzhu::AREA,
     pace::AREA,
     old58::AREA,
+    restore::AREA,
 ];
 
 /// The seed of the sample's lines and how many of them each area has.

@@ -149,6 +149,8 @@ fn read(random: &mut Random) -> Draft {
     ]);
     if errors.has(9) {
         asked = 0xDB;
+    } else if errors.has(8) && random.one_in(2) {
+        asked = random.pick(&[0x42, 0x44]);
     }
     let address = address(random);
     let by_content = errors.has(8) && random.one_in(2);

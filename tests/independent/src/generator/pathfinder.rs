@@ -15,7 +15,7 @@ pub const AREA: Area = Area {
 };
 
 const LISTED: [u8; 6] = [0x01, 0x02, 0x03, 0x04, 0x05, 0x0E];
-const FAILURES: [u8; 8] = [0x20, 0x21, 0x22, 0x23, 0x24, 0x26, 0x27, 0x2D];
+pub const FAILURES: [u8; 8] = [0x20, 0x21, 0x22, 0x23, 0x24, 0x26, 0x27, 0x2D];
 
 /// The opcodes next to those that mean something, and some others.
 const OTHERS: [u8; 14] = [
@@ -23,7 +23,7 @@ const OTHERS: [u8; 14] = [
 ];
 
 /// The least and the greatest value of each register (000, "Target register definitions").
-const RANGES: [(i64, i64); 15] = {
+pub const RANGES: [(i64, i64); 15] = {
     let (delay, degrees) = ((0, 255), (-40, 120));
     [
         (0, 5000),
@@ -125,7 +125,7 @@ fn content(random: &mut Random, size: usize) -> Vec<u8> {
 }
 
 /// A frame with the errors of its marks, length and checksum, from 1 to 5, that it shall have.
-fn framed(opcode: u8, data: &[u8], errors: &Errors, random: &mut Random) -> Vec<u8> {
+pub fn framed(opcode: u8, data: &[u8], errors: &Errors, random: &mut Random) -> Vec<u8> {
     let mut checked = vec![data.len() as u8 + 1, opcode];
     checked.extend_from_slice(data);
     let way = random.below(4);
@@ -175,7 +175,7 @@ fn framed(opcode: u8, data: &[u8], errors: &Errors, random: &mut Random) -> Vec<
 
 /// A word on the edge of a type, or any.
 fn word(random: &mut Random) -> i64 {
-    let edge = match random.below(8) {
+    let edge = match random.below(14) {
         0 => 0,
         1 => 1 << 7,
         2 => 1 << 8,
@@ -183,18 +183,36 @@ fn word(random: &mut Random) -> i64 {
         4 => 1 << 16,
         5 => 1 << 31,
         6 => random.within(0, 0xFFFF) << 16,
-        _ => random.within(i32::MIN.into(), i32::MAX.into()),
+        7 => random.within(i32::MIN.into(), i32::MAX.into()),
+        _ => return random.pick(&EDGES).into(),
     };
     let near = edge + random.within(-2, 1);
     let signed = if random.one_in(3) { -near } else { near };
     signed.clamp(i32::MIN.into(), i32::MAX.into())
 }
 
+/// Words that tell the types apart: the ends of each, and those that become one of them by their low bits.
+const EDGES: [i32; 12] = [
+    -1,
+    i32::MIN,
+    i32::MAX,
+    255,
+    256,
+    128,
+    127,
+    65_535,
+    32_768,
+    32_767,
+    -128,
+    -32_768,
+];
+
 fn row(random: &mut Random) -> Draft {
     let reply = random.pick(&[1, 2, 2, 2, 3, 3, 3, 3, 3, 4, 4, 0, 5, 0x0E, 0xFF]);
     let place = match random.below(10) {
         0 => random.within(0, 255),
         1 => random.pick(&[2, 3, 15, 16, 49, 50, 52, 53, 255]),
+        2 | 3 if reply == 3 => random.pick(&[0, 5, 6, 7, 10, 25, 52]),
         _ if reply == 1 => random.within(0, 2),
         _ if reply == 4 => random.within(0, 15),
         _ => random.within(0, 52),
@@ -552,54 +570,16 @@ fn rows(sample: &mut Sample) {
     sample.more("pf row 04 15 -3");
     sample.more("pf row 04 15 2147483647");
     sample.more("pf row 04 16 0");
-    sample.show(
-        "A row of each type of reply 03 at the edges of the types",
-        "pf row 03 0 0",
-    );
-    for place in [0, 1, 2, 5, 6, 7, 10, 25, 52] {
-        for word in [
-            127,
-            128,
-            255,
-            256,
-            511,
-            32_767,
-            32_768,
-            65_535,
-            65_536,
-            131_071,
-            i32::MAX,
-            -1,
-            -128,
-            -129,
-            -32_768,
-            -32_769,
-            i32::MIN,
-        ] {
-            sample.more(format!("pf row 03 {place} {word}"));
-        }
-    }
-    sample.show(
-        "The same of reply 02, where nothing is missing",
-        "pf row 02 0 0",
-    );
-    for place in [0, 1, 3, 17, 21, 26, 43] {
-        for word in [
-            127,
-            128,
-            255,
-            256,
-            32_767,
-            32_768,
-            65_535,
-            65_536,
-            i32::MAX,
-            -1,
-            -128,
-            -129,
-            i32::MIN,
-        ] {
-            sample.more(format!("pf row 02 {place} {word}"));
+    for (comment, reply, count) in [
+        ("Every row of reply 03 at the edges of the types", "03", 53),
+        ("and of reply 02, where nothing is missing", "02", 50),
+        ("and of reply 01", "01", 3),
+    ] {
+        sample.show(comment, format!("pf row {reply} 0 131071"));
+        for place in 0..count {
+            for word in EDGES {
+                sample.more(format!("pf row {reply} {place} {word}"));
+            }
         }
     }
     sample.show("No such reply: 7, before no such row", "pf row 00 0 0");

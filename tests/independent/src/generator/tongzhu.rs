@@ -40,7 +40,7 @@ fn read(random: &mut Random) -> Draft {
         0x12 => monitor3(errors.has(8) && random.one_in(2), random),
         0x14 => content(random, 4),
         0x15 => content(random, 2),
-        _ if errors.has(9) => vec![random.byte_but(&[1, 2])],
+        _ if errors.has(9) => vec![random.pick(&[0x00, 0x03, 0x10, 0x81, 0xFF])],
         _ => vec![random.pick(&[1, 2])],
     };
     if random.one_in(8) {
@@ -573,6 +573,18 @@ fn writes(sample: &mut Sample) {
     ] {
         sample.more(format!("tz write 12 set_time {time}"));
         sample.more(format!("tz write 0 set_time {time}"));
+    }
+    sample.show(
+        "The last day of every month, and the day after: 9",
+        "tz write 12 set_time 24 1 31 0 0 0",
+    );
+    for (month, days) in [31, 28, 31, 30, 31, 30, 31, 31, 30, 31, 30, 31]
+        .iter()
+        .enumerate()
+    {
+        for day in [*days, days + 1] {
+            sample.more(format!("tz write 12 set_time 23 {} {day} 0 0 0", month + 1));
+        }
     }
     sample.show(
         "The first and the last second, and leap days",
