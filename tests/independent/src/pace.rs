@@ -32,10 +32,7 @@ impl Frame<'_> {
 
 /// The number that a character is, if it is one of 0-9 and A-F.
 fn digit(character: u8) -> Option<u8> {
-    b"0123456789ABCDEF"
-        .iter()
-        .position(|&known| known == character)
-        .map(|place| place as u8)
+    b"0123456789ABCDEF".iter().position(|&known| known == character).map(|place| place as u8)
 }
 
 /// The number that some characters are. All of them are known to be digits.
@@ -76,10 +73,7 @@ fn unframe(input: &[u8]) -> Result<Frame<'_>, Refusal> {
         return Err(Refusal::LastMark);
     }
     let characters = &input[1..total - 1];
-    if characters
-        .iter()
-        .any(|&character| digit(character).is_none())
-    {
+    if characters.iter().any(|&character| digit(character).is_none()) {
         return Err(Refusal::Character);
     }
     let (summed, sum) = characters.split_at(characters.len() - 4);
@@ -94,11 +88,7 @@ fn unframe(input: &[u8]) -> Result<Frame<'_>, Refusal> {
     if byte(0) != VERSION || byte(4) != CID1 {
         return Err(Refusal::Address);
     }
-    Ok(Frame {
-        address: byte(2),
-        code: byte(6),
-        info,
-    })
+    Ok(Frame { address: byte(2), code: byte(6), info })
 }
 
 /// Reads the reply of an address to a command into the text of the answer.
@@ -201,9 +191,7 @@ fn warnings(address: u8, fields: &mut Fields) -> Result<String, Refusal> {
 /// What D0, D1, DA and DB hold: 01, so many amounts, and the delay.
 fn limits(amounts: usize, fields: &mut Fields) -> Result<(Vec<i64>, u8), Refusal> {
     fields.constant(0x01)?;
-    let amounts = (0..amounts)
-        .map(|_| fields.number(2))
-        .collect::<Result<_, _>>()?;
+    let amounts = (0..amounts).map(|_| fields.number(2)).collect::<Result<_, _>>()?;
     Ok((amounts, fields.byte()?))
 }
 
@@ -230,16 +218,12 @@ impl Request {
         match self {
             Request::Ask(_) => true,
             Request::CellOvervoltage(amounts, delay) => {
-                amounts
-                    .iter()
-                    .all(|amount| (2500..=4500).contains(amount) && amount % 10 == 0)
+                amounts.iter().all(|amount| (2500..=4500).contains(amount) && amount % 10 == 0)
                     && (10..=50).contains(delay)
                     && delay % 5 == 0
             }
             Request::SlowDischarge(amounts, delay) => {
-                amounts.iter().all(|amount| (1..=150).contains(amount))
-                    && (5..=100).contains(delay)
-                    && delay % 5 == 0
+                amounts.iter().all(|amount| (1..=150).contains(amount)) && (5..=100).contains(delay) && delay % 5 == 0
             }
         }
     }
@@ -248,10 +232,7 @@ impl Request {
 /// Reads a request and the address it goes to.
 fn parse(input: &[u8]) -> Result<(u8, Request), Refusal> {
     let frame = unframe(input)?;
-    if !matches!(
-        frame.code,
-        0x42 | 0x44 | 0xC1 | 0xC2 | 0xD0 | 0xD1 | 0xDA | 0xDB
-    ) {
+    if !matches!(frame.code, 0x42 | 0x44 | 0xC1 | 0xC2 | 0xD0 | 0xD1 | 0xDA | 0xDB) {
         return Err(Refusal::Request);
     }
     let info = frame.info_bytes()?;
@@ -332,15 +313,11 @@ pub fn answer(line: &Words) -> Result<String, NoCall> {
             let delay = |place: usize| line.number(place, 0, 255).map(|delay| delay as u8);
             let request = match choice {
                 b"ask" => Request::Ask(line.byte(5)?),
-                b"cell_overvoltage" => {
-                    Request::CellOvervoltage([amount(5)?, amount(6)?, amount(7)?], delay(8)?)
-                }
+                b"cell_overvoltage" => Request::CellOvervoltage([amount(5)?, amount(6)?, amount(7)?], delay(8)?),
                 _ => Request::SlowDischarge([amount(5)?, amount(6)?], delay(7)?),
             };
             let frame = write(room, address, &request);
-            Ok(refusable(
-                frame.map(|frame| format!("frame {}", shown(&frame))),
-            ))
+            Ok(refusable(frame.map(|frame| format!("frame {}", shown(&frame)))))
         }
         _ => Err(NoCall::UnknownWord),
     }
@@ -371,16 +348,8 @@ mod tests {
             ("~250146C20000FD99\r", 1, Request::Ask(0xC2)),
             ("~250046D10000FD9A\r", 0, Request::Ask(0xD1)),
             ("~250046DB0000FD89\r", 0, Request::Ask(0xDB)),
-            (
-                "~250046D0F010010E100E740D340AFA21\r",
-                0,
-                Request::CellOvervoltage([3600, 3700, 3380], 10),
-            ),
-            (
-                "~250046DA400C010069006E0AFAF7\r",
-                0,
-                Request::SlowDischarge([105, 110], 10),
-            ),
+            ("~250046D0F010010E100E740D340AFA21\r", 0, Request::CellOvervoltage([3600, 3700, 3380], 10)),
+            ("~250046DA400C010069006E0AFAF7\r", 0, Request::SlowDischarge([105, 110], 10)),
         ] {
             let printed = printed.as_bytes().to_vec();
             assert_eq!(parse(&printed), Ok((address, request.clone())));
@@ -428,12 +397,7 @@ mod tests {
                 "~25004600F010010E100E740D340AFA35\r",
                 "cell_overvoltage alarm_mv 3600 protect_mv 3700 release_mv 3380 delay_100ms 10",
             ),
-            (
-                0,
-                0xDB,
-                "~25004600400C01FF97FF920AFAD3\r",
-                "slow_discharge alarm_a 105 protect_a 110 delay_100ms 10",
-            ),
+            (0, 0xDB, "~25004600400C01FF97FF920AFAD3\r", "slow_discharge alarm_a 105 protect_a 110 delay_100ms 10"),
             (0, 0xD0, "~250046000000FDAF\r", "accepted"),
             (0, 0xDA, "~250046000000FDAF\r", "accepted"),
             (0, 0xD0, "~25004609E00204FD2B\r", "failure 09"),
@@ -471,10 +435,7 @@ mod tests {
         assert_eq!(changed(&[(9, b'D'), (16, b'd')]), Err(Refusal::Character));
         assert_eq!(changed(&[(9, b'D'), (18, b'1')]), Err(Refusal::Length));
         assert_eq!(changed(&[(1, b'3'), (18, b'1')]), Err(Refusal::Checksum));
-        assert_eq!(
-            changed(&[(1, b'3'), (18, b'F'), (17, b'2')]),
-            Err(Refusal::Address)
-        );
+        assert_eq!(changed(&[(1, b'3'), (18, b'F'), (17, b'2')]), Err(Refusal::Address));
         assert_eq!(parse(b"~25014642E0020FD30"), Err(Refusal::LastMark));
         assert_eq!(parse(b"~25014642E0020FD3"), Err(Refusal::TooShort));
         assert_eq!(parse(&frame(1, 0x99, &[0x0D])), Err(Refusal::Request));

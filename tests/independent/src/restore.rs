@@ -40,23 +40,14 @@ impl Job {
         for (register, value) in wanted.iter().enumerate() {
             writable(register, *value)?;
         }
-        let crossed = |values: &[i64]| {
-            PAIRS
-                .iter()
-                .any(|&(upper, lower)| values[upper] <= values[lower])
-        };
+        let crossed = |values: &[i64]| PAIRS.iter().any(|&(upper, lower)| values[upper] <= values[lower]);
         if crossed(wanted) {
             return Err(Refusal::WantedCrossed);
         }
         if crossed(picture) {
             return Err(Refusal::PresentCrossed);
         }
-        Ok(Job {
-            picture: picture.to_vec(),
-            wanted: wanted.to_vec(),
-            plan: plan(picture, wanted),
-            state: State::Ready,
-        })
+        Ok(Job { picture: picture.to_vec(), wanted: wanted.to_vec(), plan: plan(picture, wanted), state: State::Ready })
     }
 
     /// The next frame for the pack, or nothing if all is done.
@@ -92,11 +83,7 @@ impl Job {
 
     /// How many settings differ from the wanted ones.
     pub fn left(&self) -> usize {
-        self.picture
-            .iter()
-            .zip(&self.wanted)
-            .filter(|(present, wanted)| present != wanted)
-            .count()
+        self.picture.iter().zip(&self.wanted).filter(|(present, wanted)| present != wanted).count()
     }
 }
 
@@ -104,17 +91,10 @@ impl Job {
 fn plan(present: &[i64], wanted: &[i64]) -> VecDeque<usize> {
     let mut plan = VecDeque::new();
     for register in 0..SETTINGS {
-        match PAIRS
-            .iter()
-            .find(|(one, other)| register == *one || register == *other)
-        {
+        match PAIRS.iter().find(|(one, other)| register == *one || register == *other) {
             None => plan.push_back(register),
             Some(&(upper, lower)) if register == upper.min(lower) => {
-                plan.extend(if wanted[upper] > present[upper] {
-                    [upper, lower]
-                } else {
-                    [lower, upper]
-                });
+                plan.extend(if wanted[upper] > present[upper] { [upper, lower] } else { [lower, upper] });
             }
             // The pair has been placed with its lower number.
             Some(_) => {}
@@ -193,10 +173,7 @@ mod tests {
             }
             assert_eq!(job.next(11), Err(Refusal::OutOfTurn));
             assert_eq!(job.left(), left + 1 - written.len());
-            assert_eq!(
-                job.reply(&pathfinder::frame(WRITE, &[])),
-                Ok(Reply::Written)
-            );
+            assert_eq!(job.reply(&pathfinder::frame(WRITE, &[])), Ok(Reply::Written));
         }
         assert_eq!(job.left(), 0);
         written
@@ -204,34 +181,13 @@ mod tests {
 
     #[test]
     fn pairs_move_without_crossing() {
-        assert_eq!(
-            written(&present(&[]), &wanted(&[(3, 70), (4, 60)])),
-            [(3, 70), (4, 60)]
-        );
-        assert_eq!(
-            written(&present(&[]), &wanted(&[(3, 45), (4, 40)])),
-            [(4, 40), (3, 45)]
-        );
-        assert_eq!(
-            written(&present(&[]), &wanted(&[(3, 60), (4, 40)])),
-            [(3, 60), (4, 40)]
-        );
-        assert_eq!(
-            written(&present(&[]), &wanted(&[(3, 54), (4, 53)])),
-            [(4, 53), (3, 54)]
-        );
-        assert_eq!(
-            written(&present(&[]), &wanted(&[(3, 55), (4, 54)])),
-            [(4, 54)]
-        );
-        assert_eq!(
-            written(&present(&[]), &wanted(&[(6, 10), (7, 11)])),
-            [(7, 11), (6, 10)]
-        );
-        assert_eq!(
-            written(&present(&[]), &wanted(&[(6, -9), (7, -8)])),
-            [(6, -9), (7, -8)]
-        );
+        assert_eq!(written(&present(&[]), &wanted(&[(3, 70), (4, 60)])), [(3, 70), (4, 60)]);
+        assert_eq!(written(&present(&[]), &wanted(&[(3, 45), (4, 40)])), [(4, 40), (3, 45)]);
+        assert_eq!(written(&present(&[]), &wanted(&[(3, 60), (4, 40)])), [(3, 60), (4, 40)]);
+        assert_eq!(written(&present(&[]), &wanted(&[(3, 54), (4, 53)])), [(4, 53), (3, 54)]);
+        assert_eq!(written(&present(&[]), &wanted(&[(3, 55), (4, 54)])), [(4, 54)]);
+        assert_eq!(written(&present(&[]), &wanted(&[(6, 10), (7, 11)])), [(7, 11), (6, 10)]);
+        assert_eq!(written(&present(&[]), &wanted(&[(6, -9), (7, -8)])), [(6, -9), (7, -8)]);
     }
 
     #[test]
@@ -253,10 +209,8 @@ mod tests {
             (13, 101),
             (14, 9),
         ];
-        let places: Vec<usize> = written(&present(&[]), &wanted(&every))
-            .into_iter()
-            .map(|(register, _)| register)
-            .collect();
+        let places: Vec<usize> =
+            written(&present(&[]), &wanted(&every)).into_iter().map(|(register, _)| register).collect();
         assert_eq!(places, [0, 1, 2, 3, 4, 5, 6, 7, 8, 10, 9, 11, 13, 12, 14]);
         assert_eq!(written(&present(&[]), &wanted(&[])), []);
     }
@@ -269,58 +223,33 @@ mod tests {
         assert_eq!(refusal(&right.0[..49], &right.1), Some(Refusal::Shape));
         assert_eq!(refusal(&right.0, &right.1[..14]), Some(Refusal::Shape));
         assert_eq!(refusal(&[], &[]), Some(Refusal::Shape));
-        assert_eq!(
-            refusal(&present(&[(3, 128)]), &right.1),
-            Some(Refusal::Shape)
-        );
+        assert_eq!(refusal(&present(&[(3, 128)]), &right.1), Some(Refusal::Shape));
         assert_eq!(refusal(&present(&[(3, 127)]), &right.1), None);
-        assert_eq!(
-            refusal(&present(&[(1, -1)]), &right.1),
-            Some(Refusal::Shape)
-        );
+        assert_eq!(refusal(&present(&[(1, -1)]), &right.1), Some(Refusal::Shape));
         assert_eq!(refusal(&present(&[(15, -1)]), &right.1), None);
-        assert_eq!(
-            refusal(&right.0, &wanted(&[(3, 121)])),
-            Some(Refusal::Value)
-        );
-        assert_eq!(
-            refusal(&right.0, &wanted(&[(3, 50), (4, 50)])),
-            Some(Refusal::WantedCrossed)
-        );
+        assert_eq!(refusal(&right.0, &wanted(&[(3, 121)])), Some(Refusal::Value));
+        assert_eq!(refusal(&right.0, &wanted(&[(3, 50), (4, 50)])), Some(Refusal::WantedCrossed));
         let crossed = present(&[(12, -15)]);
-        assert_eq!(
-            refusal(&crossed, &wanted(&[(3, 50), (4, 50)])),
-            Some(Refusal::WantedCrossed)
-        );
-        assert_eq!(
-            refusal(&crossed, &wanted(&[(2, 17), (4, 55)])),
-            Some(Refusal::Value)
-        );
+        assert_eq!(refusal(&crossed, &wanted(&[(3, 50), (4, 50)])), Some(Refusal::WantedCrossed));
+        assert_eq!(refusal(&crossed, &wanted(&[(2, 17), (4, 55)])), Some(Refusal::Value));
         assert_eq!(refusal(&crossed, &right.1), Some(Refusal::PresentCrossed));
     }
 
     #[test]
     fn steps_out_of_turn_and_failures() {
-        let mut job = Job::open(&present(&[]), &wanted(&[(0, 1), (1, 1)]))
-            .unwrap_or_else(|_| panic!("refused"));
+        let mut job = Job::open(&present(&[]), &wanted(&[(0, 1), (1, 1)])).unwrap_or_else(|_| panic!("refused"));
         let done = pathfinder::frame(WRITE, &[]);
         assert_eq!(job.reply(&[]), Err(Refusal::OutOfTurn));
         assert_eq!(job.next(10), Err(Refusal::Room));
         assert_eq!(job.reply(&done), Err(Refusal::OutOfTurn));
         assert!(job.next(11).unwrap().is_some());
         assert_eq!(job.reply(&done[..5]), Err(Refusal::TooShort));
-        assert_eq!(
-            job.reply(&pathfinder::frame(0x05, &[])),
-            Err(Refusal::Request)
-        );
+        assert_eq!(job.reply(&pathfinder::frame(0x05, &[])), Err(Refusal::Request));
         assert_eq!(job.next(0), Err(Refusal::OutOfTurn));
         assert_eq!(job.reply(&done), Ok(Reply::Written));
         assert_eq!(job.left(), 1);
         assert!(job.next(11).unwrap().is_some());
-        assert_eq!(
-            job.reply(&pathfinder::frame(0x24, &[])),
-            Ok(Reply::Failure(0x24))
-        );
+        assert_eq!(job.reply(&pathfinder::frame(0x24, &[])), Ok(Reply::Failure(0x24)));
         assert_eq!(job.next(11), Err(Refusal::OutOfTurn));
         assert_eq!(job.reply(&done), Err(Refusal::OutOfTurn));
         assert_eq!(job.left(), 1);

@@ -28,11 +28,7 @@ const PATIENCE: Duration = Duration::from_secs(20);
 
 fn main() -> ExitCode {
     let words: Vec<String> = std::env::args().skip(1).collect();
-    let numbers: Vec<u64> = words
-        .iter()
-        .skip(1)
-        .filter_map(|word| word.parse().ok())
-        .collect();
+    let numbers: Vec<u64> = words.iter().skip(1).filter_map(|word| word.parse().ok()).collect();
     let (3, [count, seed]) = (words.len(), &numbers[..]) else {
         eprintln!("usage: cutter CONSOLE COUNT SEED");
         return ExitCode::from(2);
@@ -59,10 +55,7 @@ fn watch() {
     loop {
         let now = ANSWERED.load(Ordering::Relaxed);
         if now == before {
-            eprintln!(
-                "the console has not answered for {} seconds",
-                PATIENCE.as_secs()
-            );
+            eprintln!("the console has not answered for {} seconds", PATIENCE.as_secs());
             std::process::exit(1);
         }
         before = now;
@@ -79,10 +72,7 @@ struct Counts {
 
 fn run(program: &str, count: u64, seed: u64) -> Outcome<Counts> {
     let mut random = Random::new(seed);
-    let mut bench = Bench {
-        console: Console::start(program)?,
-        counts: Counts::default(),
-    };
+    let mut bench = Bench { console: Console::start(program)?, counts: Counts::default() };
     for _ in 0..count {
         let (present, wanted) = opening(&mut random);
         let outcome = bench.every_cut(&present, &wanted, &mut random);
@@ -109,12 +99,7 @@ impl Console {
             .map_err(|trouble| format!("{program}: {trouble}"))?;
         let input = child.stdin.take().ok_or("no standard input")?;
         let output = child.stdout.take().ok_or("no standard output")?;
-        Ok(Console {
-            child,
-            input,
-            output: BufReader::new(output),
-            said: Vec::new(),
-        })
+        Ok(Console { child, input, output: BufReader::new(output), said: Vec::new() })
     }
 
     /// Sends a line and waits for its answer.
@@ -200,9 +185,7 @@ impl Case<'_> {
         for (place, word) in pack.words.iter().enumerate() {
             let allowed = *word == self.first[place] || self.wanted.get(place) == Some(word);
             if !allowed {
-                return Err(format!(
-                    "word {place} is {word}, which is neither its old nor its wanted value"
-                ));
+                return Err(format!("word {place} is {word}, which is neither its old nor its wanted value"));
             }
         }
         for (upper, lower) in PAIRS {
@@ -218,9 +201,7 @@ impl Case<'_> {
 
     /// Whether the pack has the wanted values and is otherwise as it was.
     fn look_at_the_end(&self, pack: &Pack) -> Outcome<()> {
-        if pack.words[..SETTINGS] != *self.wanted
-            || pack.words[SETTINGS..] != self.first[SETTINGS..]
-        {
+        if pack.words[..SETTINGS] != *self.wanted || pack.words[SETTINGS..] != self.first[SETTINGS..] {
             return Err(format!("in the end the pack has {}", list(&pack.words)));
         }
         Ok(())
@@ -235,13 +216,8 @@ struct Bench {
 impl Bench {
     /// All the cuts of one opening.
     fn every_cut(&mut self, present: &[i64], wanted: &[i64], random: &mut Random) -> Outcome<()> {
-        let case = Case {
-            first: present,
-            wanted,
-        };
-        let fresh = Pack {
-            words: present.to_vec(),
-        };
+        let case = Case { first: present, wanted };
+        let fresh = Pack { words: present.to_vec() };
         self.restore(&case, &mut fresh.clone(), None, random)?;
         let frames = differing(present, wanted);
         for number in 1..=frames {
@@ -263,13 +239,7 @@ impl Bench {
     }
 
     /// One restore on a fresh reading of the pack: to its end, or cut at the frame of a number.
-    fn restore(
-        &mut self,
-        case: &Case,
-        pack: &mut Pack,
-        cut: Option<(usize, Cut)>,
-        random: &mut Random,
-    ) -> Outcome<()> {
+    fn restore(&mut self, case: &Case, pack: &mut Pack, cut: Option<(usize, Cut)>, random: &mut Random) -> Outcome<()> {
         self.counts.restores += 1;
         let to_write = differing(&pack.words, case.wanted);
         let line = format!("restore open {} {}", list(&pack.words), list(case.wanted));
@@ -280,13 +250,10 @@ impl Bench {
             self.disturb(random, false)?;
             let left = to_write + 1 - number;
             if random.one_in(4) {
-                self.console
-                    .expect("restore left", &format!("ok left {left}"))?;
+                self.console.expect("restore left", &format!("ok left {left}"))?;
             }
             let frame = self.frame(random)?;
-            let cut = cut
-                .filter(|(place, _)| *place == number)
-                .map(|(_, cut)| cut);
+            let cut = cut.filter(|(place, _)| *place == number).map(|(_, cut)| cut);
             if cut == Some(Cut::FrameLost) {
                 return self.end_of_cut(left);
             }
@@ -300,9 +267,7 @@ impl Bench {
             self.counts.writes += 1;
             case.look(pack)?;
             if pack.words[register] != case.wanted[register] || written.contains(&register) {
-                return Err(format!(
-                    "register {register} is written wrongly or once more"
-                ));
+                return Err(format!("register {register} is written wrongly or once more"));
             }
             written.push(register);
             if cut == Some(Cut::ReplyLost) {
@@ -322,26 +287,18 @@ impl Bench {
     /// What the job says once the dialogue has been cut.
     fn end_of_cut(&mut self, left: usize) -> Outcome<()> {
         self.counts.cuts += 1;
-        self.console
-            .expect("restore left", &format!("ok left {left}"))
+        self.console.expect("restore left", &format!("ok left {left}"))
     }
 
     /// The next frame, in room enough.
     fn frame(&mut self, random: &mut Random) -> Outcome<Vec<u8>> {
-        let answer = self.console.ask(&format!(
-            "restore next {}",
-            random.pick(&[11, 12, 260, 8192])
-        ))?;
-        let digits = answer
-            .strip_prefix("ok frame ")
-            .ok_or("expected: a frame")?;
+        let answer = self.console.ask(&format!("restore next {}", random.pick(&[11, 12, 260, 8192])))?;
+        let digits = answer.strip_prefix("ok frame ").ok_or("expected: a frame")?;
         let bytes = (0..digits.len() / 2).map(|place| {
             let pair = digits.get(2 * place..2 * place + 2);
             pair.and_then(|pair| u8::from_str_radix(pair, 16).ok())
         });
-        bytes
-            .collect::<Option<_>>()
-            .ok_or("expected: a frame".to_string())
+        bytes.collect::<Option<_>>().ok_or("expected: a frame".to_string())
     }
 
     fn reply(&mut self, opcode: u8, expected: &str) -> Outcome<()> {
@@ -354,12 +311,8 @@ impl Bench {
     fn disturb(&mut self, random: &mut Random, waiting: bool) -> Outcome<()> {
         match (random.below(12), waiting) {
             (0, true) => self.console.expect("restore next 8192", "refused 14"),
-            (1, true) => self
-                .console
-                .expect("restore reply FE010ED2FEFD", "refused 5"),
-            (2, true) => self
-                .console
-                .expect("restore reply FE01056394FD", "refused 7"),
+            (1, true) => self.console.expect("restore reply FE010ED2FEFD", "refused 5"),
+            (2, true) => self.console.expect("restore reply FE01056394FD", "refused 7"),
             (0, false) => self.console.expect("restore next 10", "refused 11"),
             (1, false) => self.reply(WRITE, "refused 14"),
             (2, false) => self.console.expect("restore open - -", "refused 8"),

@@ -44,11 +44,7 @@ impl Draft {
         let mut word = number.to_string();
         if random.one_in(25) {
             let zeros = "0".repeat(random.below(4) + 1);
-            let sign = if number < 0 || (number == 0 && random.one_in(2)) {
-                "-"
-            } else {
-                ""
-            };
+            let sign = if number < 0 || (number == 0 && random.one_in(2)) { "-" } else { "" };
             word = format!("{sign}{zeros}{}", number.unsigned_abs());
         }
         self.word(word)
@@ -78,15 +74,7 @@ pub fn written(draft: &Draft, random: &mut Random) -> Vec<u8> {
         line.extend_from_slice(word);
     }
     line.extend(spaces(random, 0));
-    let end: &[u8] = random.pick(&[
-        &b"\n"[..],
-        b"\n",
-        b"\r\n",
-        b"\r\n",
-        b" \r\n",
-        b"\r \n",
-        b"\r\r\n",
-    ]);
+    let end: &[u8] = random.pick(&[&b"\n"[..], b"\n", b"\r\n", b"\r\n", b" \r\n", b"\r \n", b"\r\r\n"]);
     line.extend_from_slice(end);
     line
 }

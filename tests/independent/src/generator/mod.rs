@@ -18,14 +18,7 @@ use std::io::{self, Write};
 pub const DEFAULT: &[&str] = &["check"];
 
 /// Every area there is.
-const AREAS: &[Area] = &[
-    check::AREA,
-    pathfinder::AREA,
-    tongzhu::AREA,
-    pace::AREA,
-    old58::AREA,
-    restore::AREA,
-];
+const AREAS: &[Area] = &[check::AREA, pathfinder::AREA, tongzhu::AREA, pace::AREA, old58::AREA, restore::AREA];
 
 /// The seed of the sample's lines and how many of them each area has.
 const SAMPLE_SEED: u64 = 1;
@@ -53,11 +46,7 @@ impl<F: FnMut(&mut Random) -> Draft> Drafts for F {
 
 /// The areas of these names, those of `DEFAULT` if there are none; or the first name that is no area's.
 pub fn areas(names: &[String]) -> Result<Vec<&'static Area>, String> {
-    let names: Vec<&str> = if names.is_empty() {
-        DEFAULT.to_vec()
-    } else {
-        names.iter().map(String::as_str).collect()
-    };
+    let names: Vec<&str> = if names.is_empty() { DEFAULT.to_vec() } else { names.iter().map(String::as_str).collect() };
     names
         .into_iter()
         .map(|name| {
@@ -136,7 +125,7 @@ pub fn sample(areas: &[&Area], output: &mut impl Write) -> io::Result<()> {
 mod tests {
     use super::*;
     use crate::console::Console;
-    use crate::line::Splitter;
+    use crate::line::{Line, Splitter};
     use std::collections::BTreeMap;
 
     #[test]
@@ -145,6 +134,31 @@ mod tests {
         let mut printed = Vec::new();
         sample(&every, &mut printed).unwrap();
         assert!(printed.len() < 1_500_000);
+    }
+
+    /// A comment that ends with a colon and a number says how the line below it is refused.
+    #[test]
+    fn the_comments_of_the_sample_are_true() {
+        let every: Vec<&Area> = AREAS.iter().collect();
+        let mut printed = Vec::new();
+        sample(&every, &mut printed).unwrap();
+        let mut console = Console::default();
+        let (mut said, mut true_ones) = (None, 0);
+        Splitter::default().feed(&printed, |line| match (console.answer(line), line) {
+            (None, Line::Bytes(bytes)) => {
+                let comment = String::from_utf8_lossy(bytes).to_string();
+                let end = comment.rsplit_once(": ").and_then(|(_, end)| end.split([',', ' ']).next()?.parse().ok());
+                said = end.map(|number: u8| (number, comment));
+            }
+            (Some(answer), _) => {
+                if let Some((number, comment)) = said.take() {
+                    assert_eq!(answer, format!("refused {number}"), "{comment}");
+                    true_ones += 1;
+                }
+            }
+            (None, Line::TooLong) => panic!("no answer to a line that is too long"),
+        });
+        assert!(true_ones > 200, "only {true_ones} comments");
     }
 
     /// How often each kind of answer comes to the random lines of an area. The kind is the call's two first words and
@@ -157,8 +171,8 @@ mod tests {
         let mut kinds = BTreeMap::new();
         Splitter::default().feed(&input, |line| {
             let call = match line {
-                crate::line::Line::Bytes(bytes) => String::from_utf8_lossy(bytes).to_string(),
-                crate::line::Line::TooLong => String::new(),
+                Line::Bytes(bytes) => String::from_utf8_lossy(bytes).to_string(),
+                Line::TooLong => String::new(),
             };
             let Some(answer) = console.answer(line) else {
                 return;
@@ -167,11 +181,8 @@ mod tests {
                 let words = text.split(' ').filter(|word| !word.is_empty());
                 words.take(count).collect::<Vec<_>>().join(" ")
             };
-            let kind = if answer.starts_with('?') {
-                answer
-            } else {
-                format!("{}: {}", first(&call, 2), first(&answer, 2))
-            };
+            let kind =
+                if answer.starts_with('?') { answer } else { format!("{}: {}", first(&call, 2), first(&answer, 2)) };
             *kinds.entry(kind).or_default() += 1;
         });
         kinds

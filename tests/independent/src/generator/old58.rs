@@ -5,11 +5,7 @@ use super::lines::{hex, Draft};
 use super::random::Random;
 use super::{Area, Sample};
 
-pub const AREA: Area = Area {
-    name: "old",
-    chosen,
-    start: || Box::new(draft),
-};
+pub const AREA: Area = Area { name: "old", chosen, start: || Box::new(draft) };
 
 /// The places of the signs, the hour and the minute, counted from 0.
 const SIGNS: [usize; 3] = [3, 6, 9];
@@ -74,10 +70,9 @@ fn close(bytes: &mut Vec<u8>) {
 
 /// The 57 bytes with the examples of 001.
 const EXAMPLE: [u8; 57] = [
-    0x01, 0x05, 0xFF, 0x2B, 0x01, 0x00, 0x2D, 0x01, 0x00, 0x58, 0x01, 0x00, 0x02, 0x30, 0x32, 0x02,
-    0x30, 0x32, 0x01, 0x14, 0x32, 0x01, 0x28, 0x32, 0x32, 0xFF, 0x02, 0x30, 0x01, 0x14, 0x03, 0x00,
-    0x00, 0x64, 0x00, 0xF2, 0x21, 0x00, 0x00, 0x64, 0x32, 0x00, 0x64, 0x00, 0x00, 0x64, 0x00, 0x16,
-    0x20, 0x00, 0xA0, 0x15, 0xFF, 0x15, 0xFF, 0x15, 0xFF,
+    0x01, 0x05, 0xFF, 0x2B, 0x01, 0x00, 0x2D, 0x01, 0x00, 0x58, 0x01, 0x00, 0x02, 0x30, 0x32, 0x02, 0x30, 0x32, 0x01,
+    0x14, 0x32, 0x01, 0x28, 0x32, 0x32, 0xFF, 0x02, 0x30, 0x01, 0x14, 0x03, 0x00, 0x00, 0x64, 0x00, 0xF2, 0x21, 0x00,
+    0x00, 0x64, 0x32, 0x00, 0x64, 0x00, 0x00, 0x64, 0x00, 0x16, 0x20, 0x00, 0xA0, 0x15, 0xFF, 0x15, 0xFF, 0x15, 0xFF,
 ];
 
 fn chosen(sample: &mut Sample) {
@@ -93,19 +88,10 @@ fn chosen(sample: &mut Sample) {
         sample.show(comment, format!("old read {}", hex(bytes)));
     };
     let right = with(&[]);
-    read(
-        "001: the examples of the table; 2B 01 00 is 32000 mA, 2D 01 00 is -32000 mA (P8)",
-        &right,
-    );
+    read("001: the examples of the table; 2B 01 00 is 32000 mA, 2D 01 00 is -32000 mA (P8)", &right);
     read("2D 00 00 is 0 mA (P8)", &with(&[(7, 0)]));
-    read(
-        "Sign X is missing whatever the count",
-        &with(&[(10, 0xFF), (11, 0xFF)]),
-    );
-    read(
-        "The greatest currents",
-        &with(&[(4, 0xFF), (5, 0xFF), (7, 0xFF), (8, 0xFF)]),
-    );
+    read("Sign X is missing whatever the count", &with(&[(10, 0xFF), (11, 0xFF)]));
+    read("The greatest currents", &with(&[(4, 0xFF), (5, 0xFF), (7, 0xFF), (8, 0xFF)]));
     let mut least = vec![0; 57];
     for place in SIGNS {
         least[place] = b'+';
@@ -141,10 +127,7 @@ fn chosen(sample: &mut Sample) {
     read("Minute 60: 9", &with(&[(MINUTE, 60)]));
     read("23:59", &with(&[(HOUR, 23), (MINUTE, 59)]));
     read("00:00", &with(&[(HOUR, 0), (MINUTE, 0)]));
-    read(
-        "A state of charge of 255 has no range",
-        &with(&[(40, 0xFF)]),
-    );
+    read("A state of charge of 255 has no range", &with(&[(40, 0xFF)]));
     let mut two = with(&[(3, 0), (HOUR, 99)]);
     two[57] ^= 0xFF;
     read("Check, sign and hour wrong: 5", &two);

@@ -5,18 +5,12 @@ use super::random::{Errors, Random};
 use super::{Area, Sample};
 use crate::checks::sum16;
 
-pub const AREA: Area = Area {
-    name: "pace",
-    chosen,
-    start: || Box::new(draft),
-};
+pub const AREA: Area = Area { name: "pace", chosen, start: || Box::new(draft) };
 
 const LISTED: [u8; 8] = [0x42, 0x44, 0xC1, 0xC2, 0xD1, 0xDB, 0xD0, 0xDA];
 
 /// The commands next to those that mean something, and some others.
-const OTHERS: [u8; 12] = [
-    0x00, 0x41, 0x43, 0x45, 0x99, 0xA1, 0xC0, 0xC3, 0xD2, 0xD9, 0xDC, 0xFF,
-];
+const OTHERS: [u8; 12] = [0x00, 0x41, 0x43, 0x45, 0x99, 0xA1, 0xC0, 0xC3, 0xD2, 0xD9, 0xDC, 0xFF];
 
 /// Characters that are no digits, those next to the digits among them.
 const NO_DIGITS: &[u8] = b"abcdefgG/:@`~ \r\n\x00\x7F\xB0\xFF";
@@ -144,9 +138,7 @@ fn address(random: &mut Random) -> u8 {
 /// A reply, right or with some errors.
 fn read(random: &mut Random) -> Draft {
     let errors = random.errors(&[1, 2, 3, 13, 4, 5, 6, 7, 8, 8, 9]);
-    let mut asked = random.pick(&[
-        0x42, 0x44, 0xC1, 0xC2, 0xD1, 0xD1, 0xDB, 0xDB, 0xDB, 0xD0, 0xDA,
-    ]);
+    let mut asked = random.pick(&[0x42, 0x44, 0xC1, 0xC2, 0xD1, 0xD1, 0xDB, 0xDB, 0xDB, 0xD0, 0xDA]);
     if errors.has(9) {
         asked = 0xDB;
     } else if errors.has(8) && random.one_in(2) {
@@ -174,10 +166,7 @@ fn read(random: &mut Random) -> Draft {
     if errors.has(7) {
         asked = random.pick(&OTHERS);
     }
-    Draft::of("pace read")
-        .byte(address, random)
-        .byte(asked, random)
-        .hex(&frame.framed(&errors, random), random)
+    Draft::of("pace read").byte(address, random).byte(asked, random).hex(&frame.framed(&errors, random), random)
 }
 
 /// The INFO of a reply, with a wrong count, constant or address if it shall be of the wrong shape.
@@ -251,11 +240,7 @@ fn content(random: &mut Random, size: usize) -> Vec<u8> {
 
 /// Amounts and a delay that may be written with D0 or DA, or with one to three of them out of range.
 fn limits(command: u8, right: bool, random: &mut Random) -> (Vec<i64>, i64) {
-    let (count, least, most, step) = if command == 0xD0 {
-        (3, 2500, 4500, 10)
-    } else {
-        (2, 1, 150, 1)
-    };
+    let (count, least, most, step) = if command == 0xD0 { (3, 2500, 4500, 10) } else { (2, 1, 150, 1) };
     let (short, long) = if command == 0xD0 { (10, 50) } else { (5, 100) };
     let mut amounts: Vec<i64> = (0..count)
         .map(|_| match random.below(4) {
@@ -292,9 +277,7 @@ fn limits(command: u8, right: bool, random: &mut Random) -> (Vec<i64>, i64) {
 /// A request, right or with some errors.
 fn parse(random: &mut Random) -> Draft {
     let errors = random.errors(&[1, 2, 3, 13, 4, 5, 6, 7, 8, 9, 9]);
-    let code = random.pick(&[
-        0x42, 0x44, 0xC1, 0xC2, 0xD1, 0xDB, 0xD0, 0xD0, 0xD0, 0xDA, 0xDA, 0xDA,
-    ]);
+    let code = random.pick(&[0x42, 0x44, 0xC1, 0xC2, 0xD1, 0xDB, 0xD0, 0xD0, 0xD0, 0xDA, 0xDA, 0xDA]);
     let address = address(random);
     let mut info = match code {
         0x42 | 0x44 => vec![address],
@@ -348,13 +331,9 @@ fn write(random: &mut Random) -> Draft {
             .word("ask")
             .byte(command, random);
     }
-    let (command, name, needed) =
-        random.pick(&[(0xD0, "cell_overvoltage", 34), (0xDA, "slow_discharge", 30)]);
+    let (command, name, needed) = random.pick(&[(0xD0, "cell_overvoltage", 34), (0xDA, "slow_discharge", 30)]);
     let (amounts, delay) = limits(command, !errors.has(9), random);
-    let mut draft = start
-        .number(random.room(needed, errors.has(11)), random)
-        .byte(address(random), random)
-        .word(name);
+    let mut draft = start.number(random.room(needed, errors.has(11)), random).byte(address(random), random).word(name);
     for amount in amounts {
         draft = draft.number(amount, random);
     }
@@ -372,10 +351,7 @@ fn chosen(sample: &mut Sample) {
 
 fn replies(sample: &mut Sample) {
     let mut read = |comment: &str, address: u8, asked: u8, frame: &str| {
-        let line = format!(
-            "pace read {address:02X} {asked:02X} {}",
-            hex(frame.as_bytes())
-        );
+        let line = format!("pace read {address:02X} {asked:02X} {}", hex(frame.as_bytes()));
         sample.show(comment, line);
     };
     read(
@@ -391,92 +367,31 @@ fn replies(sample: &mut Sample) {
         0x44,
         "~25014600004C000110000000000000000000000000000000000600000000000000000000000E000000000000EF3A\r",
     );
-    read(
-        "004: the hardware version",
-        0x01,
-        0xC1,
-        "~25014600602850313653313030412D313831322D312E30302000F58E\r",
-    );
+    read("004: the hardware version", 0x01, 0xC1, "~25014600602850313653313030412D313831322D312E30302000F58E\r");
     read(
         "004: the serial number, 40 bytes",
         0x01,
         0xC2,
         "~25014600B05031383132313031333830333039442020202020202020202020202020202020202020202020202020EE0F\r",
     );
-    read(
-        "004: the cell overvoltage",
-        0x00,
-        0xD1,
-        "~25004600F010010E100E740D340AFA35\r",
-    );
-    read(
-        "004: the slow discharge limit; FF97 is 105 A (P7)",
-        0x00,
-        0xDB,
-        "~25004600400C01FF97FF920AFAD3\r",
-    );
-    read(
-        "004: a write is accepted",
-        0x00,
-        0xD0,
-        "~250046000000FDAF\r",
-    );
+    read("004: the cell overvoltage", 0x00, 0xD1, "~25004600F010010E100E740D340AFA35\r");
+    read("004: the slow discharge limit; FF97 is 105 A (P7)", 0x00, 0xDB, "~25004600400C01FF97FF920AFAD3\r");
+    read("004: a write is accepted", 0x00, 0xD0, "~250046000000FDAF\r");
     read("and the other one", 0x00, 0xDA, "~250046000000FDAF\r");
-    read(
-        "004: a failure 09 with INFO, which is not read",
-        0x00,
-        0xDA,
-        "~25004609E00204FD2B\r",
-    );
-    let right = |address: u8, code: u8, info: &[u8]| {
-        String::from_utf8(Frame::new(address, code, info).right()).unwrap()
-    };
-    read(
-        "A failure to every command",
-        0x01,
-        0x42,
-        &right(0x01, 0x04, &[]),
-    );
+    read("004: a failure 09 with INFO, which is not read", 0x00, 0xDA, "~25004609E00204FD2B\r");
+    let right =
+        |address: u8, code: u8, info: &[u8]| String::from_utf8(Frame::new(address, code, info).right()).unwrap();
+    read("A failure to every command", 0x01, 0x42, &right(0x01, 0x04, &[]));
     for asked in LISTED {
         read("", 0xFF, asked, &right(0xFF, 0xFF, &[0x01]));
     }
-    read(
-        "A serial number of 20 bytes",
-        0x01,
-        0xC2,
-        &right(0x01, 0x00, b"18121013803090      "),
-    );
-    read(
-        "One cell and no temperature",
-        0xFE,
-        0x42,
-        &right(0xFE, 0x00, &analog(0xFE, 1, 0)),
-    );
-    read(
-        "Sixteen cells and eight temperatures",
-        0x00,
-        0x42,
-        &right(0x00, 0x00, &analog(0x00, 16, 8)),
-    );
-    read(
-        "and their warnings",
-        0x00,
-        0x44,
-        &right(0x00, 0x00, &warnings(0x00, 16, 8)),
-    );
-    read(
-        "and of one cell",
-        0x10,
-        0x44,
-        &right(0x10, 0x00, &warnings(0x10, 1, 0)),
-    );
+    read("A serial number of 20 bytes", 0x01, 0xC2, &right(0x01, 0x00, b"18121013803090      "));
+    read("One cell and no temperature", 0xFE, 0x42, &right(0xFE, 0x00, &analog(0xFE, 1, 0)));
+    read("Sixteen cells and eight temperatures", 0x00, 0x42, &right(0x00, 0x00, &analog(0x00, 16, 8)));
+    read("and their warnings", 0x00, 0x44, &right(0x00, 0x00, &warnings(0x00, 16, 8)));
+    read("and of one cell", 0x10, 0x44, &right(0x10, 0x00, &warnings(0x10, 1, 0)));
     for (comment, alarm, protect, delay) in [
-        (
-            "Discharge limits of 32768 A and 0 A",
-            0x8000_u16,
-            0x0000_u16,
-            0xFF,
-        ),
+        ("Discharge limits of 32768 A and 0 A", 0x8000_u16, 0x0000_u16, 0xFF),
         ("of 1 A and 32767 A, any delay", 0xFFFF, 0x8001, 0x00),
         ("A positive one: 9", 0x0001, 0xFF97, 0x0A),
         ("and the other: 9", 0xFF97, 0x7FFF, 0x0A),
@@ -491,23 +406,14 @@ fn replies(sample: &mut Sample) {
         "Reads of D1 keep all values",
         0x00,
         0xD1,
-        &right(
-            0x00,
-            0x00,
-            &[0x01, 0xFF, 0xFF, 0x00, 0x00, 0x80, 0x01, 0xFF],
-        ),
+        &right(0x00, 0x00, &[0x01, 0xFF, 0xFF, 0x00, 0x00, 0x80, 0x01, 0xFF]),
     );
     let coldest = {
         let mut info = analog(0x01, 1, 2);
         info[6..10].copy_from_slice(&[0x00, 0x00, 0xFF, 0xFF]);
         info
     };
-    read(
-        "The least and the greatest temperature",
-        0x01,
-        0x42,
-        &right(0x01, 0x00, &coldest),
-    );
+    read("The least and the greatest temperature", 0x01, 0x42, &right(0x01, 0x00, &coldest));
 }
 
 /// The INFO of analog information with these counts.
@@ -516,9 +422,7 @@ fn analog(address: u8, cells: usize, sensors: usize) -> Vec<u8> {
     info.extend((0..cells).flat_map(|cell| (3271 + cell as u16).to_be_bytes()));
     info.push(sensors as u8);
     info.extend((0..sensors).flat_map(|sensor| (2700 + 10 * sensor as u16).to_be_bytes()));
-    info.extend([
-        0xFF, 0x1F, 0xCC, 0xCD, 0x12, 0xD3, 0x03, 0x28, 0x6A, 0x00, 0x8C, 0x27, 0x10,
-    ]);
+    info.extend([0xFF, 0x1F, 0xCC, 0xCD, 0x12, 0xD3, 0x03, 0x28, 0x6A, 0x00, 0x8C, 0x27, 0x10]);
     info
 }
 
@@ -534,10 +438,7 @@ fn warnings(address: u8, cells: usize, sensors: usize) -> Vec<u8> {
 
 fn refused_replies(sample: &mut Sample) {
     let mut read = |comment: &str, address: u8, asked: u8, frame: &[u8]| {
-        sample.show(
-            comment,
-            format!("pace read {address:02X} {asked:02X} {}", hex(frame)),
-        );
+        sample.show(comment, format!("pace read {address:02X} {asked:02X} {}", hex(frame)));
     };
     let accepted = b"~250046000000FDAF\r";
     let changed = |changes: &[(usize, u8)]| {
@@ -553,24 +454,9 @@ fn refused_replies(sample: &mut Sample) {
     read("", 0x00, 0xD0, b"~\r");
     read("", 0x00, 0xD0, &accepted[..17]);
     read("", 0x00, 0xD0, b"~25004600000FDAF\r");
-    read(
-        "The first mark wrong: 2",
-        0x00,
-        0xD0,
-        &changed(&[(0, b'!')]),
-    );
-    read(
-        "The last mark wrong: 3",
-        0x00,
-        0xD0,
-        &changed(&[(17, b'\n')]),
-    );
-    read(
-        "A line feed behind the frame: 3",
-        0x00,
-        0xD0,
-        &[&accepted[..], b"\n"].concat(),
-    );
+    read("The first mark wrong: 2", 0x00, 0xD0, &changed(&[(0, b'!')]));
+    read("The last mark wrong: 3", 0x00, 0xD0, &changed(&[(17, b'\n')]));
+    read("A line feed behind the frame: 3", 0x00, 0xD0, &[&accepted[..], b"\n"].concat());
     read("A lower-case check: 13", 0x00, 0xD0, b"~250046000000fdaf\r");
     read("Other characters: 13", 0x00, 0xD0, &summed("25004600000g"));
     for character in *b"/:@G`~ \x00\xFF\r" {
@@ -578,106 +464,34 @@ fn refused_replies(sample: &mut Sample) {
         text[9] = character;
         read("", 0x00, 0xD0, &closed(text));
     }
-    read(
-        "The length digit wrong: 4",
-        0x00,
-        0xD0,
-        &summed("250046001000"),
-    );
-    read(
-        "The count wrong, its digit right: 4",
-        0x00,
-        0xD0,
-        &summed("25004600E002"),
-    );
+    read("The length digit wrong: 4", 0x00, 0xD0, &summed("250046001000"));
+    read("The count wrong, its digit right: 4", 0x00, 0xD0, &summed("25004600E002"));
     read("", 0x00, 0xD0, &summed("25004600F001"));
-    read(
-        "More characters than counted: 4",
-        0x00,
-        0xD0,
-        &summed("250046000000AB"),
-    );
+    read("More characters than counted: 4", 0x00, 0xD0, &summed("250046000000AB"));
     read("Fewer: 4", 0x00, 0xD0, &summed("25004600C004AB"));
     read("The check wrong: 5", 0x00, 0xD0, &changed(&[(16, b'E')]));
     read("Another version: 6", 0x00, 0xD0, &summed("200046000000"));
     read("Another CID1: 6", 0x00, 0xD0, &summed("250047000000"));
     read("Another address: 6", 0x01, 0xD0, accepted);
-    read(
-        "although it is a failure",
-        0x01,
-        0xD0,
-        &summed("250046090000"),
-    );
+    read("although it is a failure", 0x01, 0xD0, &summed("250046090000"));
     read("A command that is not listed: 7", 0x00, 0xD2, accepted);
-    read(
-        "although it is a failure",
-        0x00,
-        0x99,
-        &summed("250046090000"),
-    );
+    read("although it is a failure", 0x00, 0x99, &summed("250046090000"));
     read("also of an odd count", 0x00, 0x99, &summed("25004609F0015"));
-    read(
-        "An odd count of characters: 8",
-        0x00,
-        0xD0,
-        &summed("25004600F0015"),
-    );
-    read(
-        "a failure is not tested for it",
-        0x00,
-        0xD0,
-        &summed("25004609F0015"),
-    );
-    read(
-        "INFO behind a write: 8",
-        0x00,
-        0xD0,
-        &summed("25004600E00201"),
-    );
+    read("An odd count of characters: 8", 0x00, 0xD0, &summed("25004600F0015"));
+    read("a failure is not tested for it", 0x00, 0xD0, &summed("25004609F0015"));
+    let (longest, longer) = ("5".repeat(0xFFF), "5".repeat(0x1000));
+    read("The longest INFO, of a failure", 0x00, 0xD0, &summed(&format!("250046093FFF{longest}")));
+    read("One character more cannot be counted: 4", 0x00, 0xD0, &summed(&format!("250046090000{longer}")));
+    read("INFO behind a write: 8", 0x00, 0xD0, &summed("25004600E00201"));
     read("", 0x00, 0xDA, &summed("25004600E00200"));
-    read(
-        "Two errors, start and end wrong: 2",
-        0x00,
-        0xD0,
-        &changed(&[(0, 0), (17, 0)]),
-    );
-    read(
-        "End and a character wrong: 3",
-        0x00,
-        0xD0,
-        &changed(&[(17, 0), (9, b'a')]),
-    );
-    read(
-        "A character and the length wrong: 13",
-        0x00,
-        0xD0,
-        &changed(&[(9, b'1'), (10, b'a')]),
-    );
-    read(
-        "Length and check wrong: 4",
-        0x00,
-        0xD0,
-        &changed(&[(9, b'1'), (16, b'0')]),
-    );
-    read(
-        "Check and address wrong: 5",
-        0x01,
-        0xD0,
-        &changed(&[(16, b'0')]),
-    );
+    read("Two errors, start and end wrong: 2", 0x00, 0xD0, &changed(&[(0, 0), (17, 0)]));
+    read("End and a character wrong: 3", 0x00, 0xD0, &changed(&[(17, 0), (9, b'a')]));
+    read("A character and the length wrong: 13", 0x00, 0xD0, &changed(&[(9, b'1'), (10, b'a')]));
+    read("Length and check wrong: 4", 0x00, 0xD0, &changed(&[(9, b'1'), (16, b'0')]));
+    read("Check and address wrong: 5", 0x01, 0xD0, &changed(&[(16, b'0')]));
     read("Address and command wrong: 6", 0x01, 0xD2, accepted);
-    read(
-        "Command and shape wrong: 7",
-        0x00,
-        0xD2,
-        &summed("25004600F0015"),
-    );
-    read(
-        "Everything wrong: 2",
-        0x01,
-        0xD2,
-        &changed(&[(0, 0), (17, 0), (9, b'a'), (16, b'0')]),
-    );
+    read("Command and shape wrong: 7", 0x00, 0xD2, &summed("25004600F0015"));
+    read("Everything wrong: 2", 0x01, 0xD2, &changed(&[(0, 0), (17, 0), (9, b'a'), (16, b'0')]));
 }
 
 fn more_refused_replies(sample: &mut Sample) {
@@ -689,33 +503,13 @@ fn more_refused_replies(sample: &mut Sample) {
         info[place] = byte;
         info
     };
-    read(
-        "Analog information without a cell: 8",
-        0x42,
-        &analog(1, 0, 0),
-    );
+    read("Analog information without a cell: 8", 0x42, &analog(1, 0, 0));
     read("with 17 cells: 8", 0x42, &analog(1, 17, 0));
     read("with nine temperatures: 8", 0x42, &analog(1, 4, 9));
-    read(
-        "its constant 00 another: 8",
-        0x42,
-        &with(analog(1, 1, 0), 0, 0x01),
-    );
-    read(
-        "its address another: 8",
-        0x42,
-        &with(analog(1, 1, 0), 1, 0x02),
-    );
-    read(
-        "its constant 03 another: 8",
-        0x42,
-        &with(analog(1, 1, 0), 12, 0x04),
-    );
-    read(
-        "a byte too many: 8",
-        0x42,
-        &[analog(1, 1, 1), vec![0]].concat(),
-    );
+    read("its constant 00 another: 8", 0x42, &with(analog(1, 1, 0), 0, 0x01));
+    read("its address another: 8", 0x42, &with(analog(1, 1, 0), 1, 0x02));
+    read("its constant 03 another: 8", 0x42, &with(analog(1, 1, 0), 12, 0x04));
+    read("a byte too many: 8", 0x42, &[analog(1, 1, 1), vec![0]].concat());
     let whole = analog(1, 2, 1);
     read("cut anywhere: 8", 0x42, &[]);
     for length in [1, 2, 3, 4, 7, 8, 10, 16, 17, whole.len() - 1] {
@@ -724,71 +518,32 @@ fn more_refused_replies(sample: &mut Sample) {
     read("The status without a cell: 8", 0x44, &warnings(1, 0, 0));
     read("with 17 cells: 8", 0x44, &warnings(1, 17, 0));
     read("with nine temperatures: 8", 0x44, &warnings(1, 4, 9));
-    read(
-        "its constant another: 8",
-        0x44,
-        &with(warnings(1, 4, 1), 0, 0x02),
-    );
-    read(
-        "its address another: 8",
-        0x44,
-        &with(warnings(1, 4, 1), 1, 0x00),
-    );
-    read(
-        "a byte too many or too few: 8",
-        0x44,
-        &[warnings(1, 4, 1), vec![0]].concat(),
-    );
+    read("its constant another: 8", 0x44, &with(warnings(1, 4, 1), 0, 0x02));
+    read("its address another: 8", 0x44, &with(warnings(1, 4, 1), 1, 0x00));
+    read("a byte too many or too few: 8", 0x44, &[warnings(1, 4, 1), vec![0]].concat());
     read("", 0x44, &warnings(1, 4, 1)[..19]);
-    read(
-        "A hardware version of 19, 21, 40 and 0 bytes: 8",
-        0xC1,
-        &[0x41; 19],
-    );
+    read("A hardware version of 19, 21, 40 and 0 bytes: 8", 0xC1, &[0x41; 19]);
     for length in [21, 40, 0] {
         read("", 0xC1, &vec![0x41; length]);
     }
-    read(
-        "A serial number of 0, 19, 21, 39 and 41 bytes: 8",
-        0xC2,
-        &[],
-    );
+    read("A serial number of 0, 19, 21, 39 and 41 bytes: 8", 0xC2, &[]);
     for length in [19, 21, 39, 41] {
         read("", 0xC2, &vec![0x41; length]);
     }
-    read(
-        "Limits with another constant: 8",
-        0xD1,
-        &[0, 0, 0, 0, 0, 0, 0, 0],
-    );
+    read("Limits with another constant: 8", 0xD1, &[0, 0, 0, 0, 0, 0, 0, 0]);
     read("", 0xDB, &[2, 0, 0, 0, 0, 0]);
-    read(
-        "a byte too few or too many: 8",
-        0xD1,
-        &[1, 0, 0, 0, 0, 0, 0],
-    );
+    read("a byte too few or too many: 8", 0xD1, &[1, 0, 0, 0, 0, 0, 0]);
     read("", 0xD1, &[1, 0, 0, 0, 0, 0, 0, 0, 0]);
     read("", 0xDB, &[1, 0, 0, 0, 0]);
-    read(
-        "A positive amount and a byte too many: 8",
-        0xDB,
-        &[1, 0, 1, 0, 0, 0, 0],
-    );
-    read(
-        "A positive amount and another constant: 8",
-        0xDB,
-        &[0, 0, 1, 0, 0, 0],
-    );
+    read("A positive amount and a byte too many: 8", 0xDB, &[1, 0, 1, 0, 0, 0, 0]);
+    read("A positive amount and another constant: 8", 0xDB, &[0, 0, 1, 0, 0, 0]);
 }
 
 fn requests(sample: &mut Sample) {
     let mut parse = |comment: &str, frame: &[u8]| {
         sample.show(comment, format!("pace parse {}", hex(frame)));
     };
-    parse(
-        "004: the request for analog information (P6)",
-        b"~25014642E00201FD30\r",
-    );
+    parse("004: the request for analog information (P6)", b"~25014642E00201FD30\r");
     parse("and with a lower-case check: 13", b"~25014642E00201fd30\r");
     parse("004: for the status", b"~25014644E00201FD2E\r");
     parse("004: for the hardware version", b"~250146C10000FD9A\r");
@@ -797,15 +552,9 @@ fn requests(sample: &mut Sample) {
     parse("004: and its write", b"~250046D0F010010E100E740D340AFA21\r");
     parse("004: for the slow discharge limit", b"~250046DB0000FD89\r");
     parse("004: and its write", b"~250046DA400C010069006E0AFAF7\r");
-    parse(
-        "The limit as it was read, FF97: 9",
-        &Frame::new(0, 0xDA, &[1, 0xFF, 0x97, 0xFF, 0x92, 10]).right(),
-    );
+    parse("The limit as it was read, FF97: 9", &Frame::new(0, 0xDA, &[1, 0xFF, 0x97, 0xFF, 0x92, 10]).right());
     for (comment, frame) in [
-        (
-            "004: commands that are not listed: 7",
-            &b"~25004699E0020DFD12\r"[..],
-        ),
+        ("004: commands that are not listed: 7", &b"~25004699E0020DFD12\r"[..]),
         ("", b"~2500469AE00200FD1E\r"),
         ("", b"~2500469CE00201FD1B\r"),
         ("", b"~250046A1C004018FFCA7\r"),
@@ -821,78 +570,29 @@ fn requests(sample: &mut Sample) {
         parse(comment, frame);
     }
     parse("A reply is no request: 7", b"~250046000000FDAF\r");
-    parse(
-        "Every address may be asked",
-        &Frame::new(0xFF, 0xC1, &[]).right(),
-    );
-    parse(
-        "and repeats itself in 42",
-        &Frame::new(0xFF, 0x42, &[0xFF]).right(),
-    );
-    parse(
-        "Another address in INFO: 8",
-        &Frame::new(0x01, 0x42, &[0x02]).right(),
-    );
-    parse(
-        "No address in INFO: 8",
-        &Frame::new(0x01, 0x44, &[]).right(),
-    );
+    parse("Every address may be asked", &Frame::new(0xFF, 0xC1, &[]).right());
+    parse("and repeats itself in 42", &Frame::new(0xFF, 0x42, &[0xFF]).right());
+    parse("Another address in INFO: 8", &Frame::new(0x01, 0x42, &[0x02]).right());
+    parse("No address in INFO: 8", &Frame::new(0x01, 0x44, &[]).right());
     parse("Two: 8", &Frame::new(0x01, 0x44, &[0x01, 0x01]).right());
-    parse(
-        "INFO where none belongs: 8",
-        &Frame::new(0x01, 0xC1, &[0x01]).right(),
-    );
+    parse("INFO where none belongs: 8", &Frame::new(0x01, 0xC1, &[0x01]).right());
     parse("Another version: 6", &closed(b"240146C10000".to_vec()));
     parse("Another CID1: 6", &closed(b"250145C10000".to_vec()));
-    parse(
-        "Another version and a command not listed: 6",
-        &closed(b"240146C30000".to_vec()),
-    );
+    parse("Another version and a command not listed: 6", &closed(b"240146C30000".to_vec()));
     parse("An odd count: 8", &closed(b"250146C1F0010".to_vec()));
-    parse(
-        "of a command not listed: 7",
-        &closed(b"250146C3F0010".to_vec()),
-    );
+    parse("of a command not listed: 7", &closed(b"250146C3F0010".to_vec()));
     let mut limits = |comment: &str, code: u8, info: &[u8]| {
         parse(comment, &Frame::new(0x00, code, info).right());
     };
-    limits(
-        "A write with another constant: 8",
-        0xD0,
-        &[0, 0x0E, 0x10, 0x0E, 0x74, 0x0D, 0x34, 10],
-    );
-    limits(
-        "and values out of range: 8",
-        0xD0,
-        &[0, 0, 0, 0, 0, 0, 0, 0],
-    );
-    limits(
-        "A byte too few: 8",
-        0xD0,
-        &[1, 0x0E, 0x10, 0x0E, 0x74, 0x0D, 0x34],
-    );
-    limits(
-        "The other write's shape: 8",
-        0xDA,
-        &[1, 0x0E, 0x10, 0x0E, 0x74, 0x0D, 0x34, 10],
-    );
+    limits("A write with another constant: 8", 0xD0, &[0, 0x0E, 0x10, 0x0E, 0x74, 0x0D, 0x34, 10]);
+    limits("and values out of range: 8", 0xD0, &[0, 0, 0, 0, 0, 0, 0, 0]);
+    limits("A byte too few: 8", 0xD0, &[1, 0x0E, 0x10, 0x0E, 0x74, 0x0D, 0x34]);
+    limits("The other write's shape: 8", 0xDA, &[1, 0x0E, 0x10, 0x0E, 0x74, 0x0D, 0x34, 10]);
     limits("", 0xD0, &[1, 0, 105, 0, 110, 10]);
-    limits(
-        "An alarm of 3601 mV: 9",
-        0xD0,
-        &[1, 0x0E, 0x11, 0x0E, 0x74, 0x0D, 0x34, 10],
-    );
-    limits(
-        "A delay of 12: 9",
-        0xD0,
-        &[1, 0x0E, 0x10, 0x0E, 0x74, 0x0D, 0x34, 12],
-    );
+    limits("An alarm of 3601 mV: 9", 0xD0, &[1, 0x0E, 0x11, 0x0E, 0x74, 0x0D, 0x34, 10]);
+    limits("A delay of 12: 9", 0xD0, &[1, 0x0E, 0x10, 0x0E, 0x74, 0x0D, 0x34, 12]);
     limits("An alarm of 0 A: 9", 0xDA, &[1, 0, 0, 0, 110, 10]);
-    limits(
-        "Limits of 1 A and 150 A, a delay of 100",
-        0xDA,
-        &[1, 0, 1, 0, 150, 100],
-    );
+    limits("Limits of 1 A and 150 A, a delay of 100", 0xDA, &[1, 0, 1, 0, 150, 100]);
 }
 
 fn writes(sample: &mut Sample) {
@@ -918,26 +618,14 @@ fn writes(sample: &mut Sample) {
     ] {
         sample.more(line);
     }
-    sample.show(
-        "A write has no request without values: 8, before 11",
-        "pace write 34 00 ask D0",
-    );
+    sample.show("A write has no request without values: 8, before 11", "pace write 34 00 ask D0");
     sample.more("pace write 0 00 ask da");
-    sample.show(
-        "A command that is not listed: 7, before 11",
-        "pace write 18 00 ask 00",
-    );
-    for line in [
-        "pace write 0 00 ask 43",
-        "pace write 0 00 ask D2",
-        "pace write 8192 00 ask FF",
-    ] {
+    sample.show("A command that is not listed: 7, before 11", "pace write 18 00 ask 00");
+    for line in ["pace write 0 00 ask 43", "pace write 0 00 ask D2", "pace write 8192 00 ask FF"] {
         sample.more(line);
     }
-    sample.show(
-        "Cell overvoltage at its edges, and 9 before 11",
-        "pace write 34 00 cell_overvoltage 2500 2500 2500 10",
-    );
+    sample
+        .show("Cell overvoltage at its edges, and 9 before 11", "pace write 34 00 cell_overvoltage 2500 2500 2500 10");
     for values in [
         "4500 4500 4500 50",
         "2490 2500 2500 10",
@@ -962,10 +650,7 @@ fn writes(sample: &mut Sample) {
         sample.more(format!("pace write 34 00 cell_overvoltage {values}"));
         sample.more(format!("pace write 33 00 cell_overvoltage {values}"));
     }
-    sample.show(
-        "Slow discharge at its edges, and 9 before 11",
-        "pace write 30 00 slow_discharge 1 1 5",
-    );
+    sample.show("Slow discharge at its edges, and 9 before 11", "pace write 30 00 slow_discharge 1 1 5");
     for values in [
         "150 150 100",
         "0 1 5",

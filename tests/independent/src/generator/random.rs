@@ -11,9 +11,7 @@ impl Random {
 
     /// A source of its own for a name, so that one area's lines do not depend on another's.
     pub fn named(seed: u64, name: &str) -> Random {
-        let mixed = name.bytes().fold(seed, |mixed, byte| {
-            Random(mixed ^ u64::from(byte)).draw().rotate_left(7)
-        });
+        let mixed = name.bytes().fold(seed, |mixed, byte| Random(mixed ^ u64::from(byte)).draw().rotate_left(7));
         Random(mixed)
     }
 

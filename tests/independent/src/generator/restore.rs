@@ -10,11 +10,7 @@ use crate::examples::SETTINGS as SETTINGS_OF_000;
 use crate::pathfinder::frame;
 use crate::restore::{PAIRS, PRESENT, SETTINGS};
 
-pub const AREA: Area = Area {
-    name: "restore",
-    chosen,
-    start: || Box::new(Dialogue::Closed(6)),
-};
+pub const AREA: Area = Area { name: "restore", chosen, start: || Box::new(Dialogue::Closed(6)) };
 
 /// The least and the greatest word of each setting's type.
 const TYPES: [(i64, i64); SETTINGS] = {
@@ -97,11 +93,7 @@ impl Drafts for Dialogue {
 
 impl Dialogue {
     fn open(&mut self, random: &mut Random) -> Draft {
-        let errors = if random.one_in(2) {
-            random.errors(&[8, 9, 12, 15])
-        } else {
-            Errors::of(&[])
-        };
+        let errors = if random.one_in(2) { random.errors(&[8, 9, 12, 15]) } else { Errors::of(&[]) };
         let (mut present, mut wanted) = opening(random);
         let left = differing(&present, &wanted);
         if errors.is_empty() {
@@ -137,9 +129,7 @@ impl Dialogue {
                 _ => std::mem::swap(&mut present, &mut wanted),
             }
         }
-        Draft::of("restore open")
-            .word(list(&present))
-            .word(list(&wanted))
+        Draft::of("restore open").word(decorated(&present, random)).word(decorated(&wanted, random))
     }
 }
 
@@ -212,11 +202,7 @@ fn cross(values: &mut [i64], (upper, lower): (usize, usize), random: &mut Random
 
 /// How many settings differ.
 pub fn differing(present: &[i64], wanted: &[i64]) -> usize {
-    present
-        .iter()
-        .zip(wanted)
-        .filter(|(one, other)| one != other)
-        .count()
+    present.iter().zip(wanted).filter(|(one, other)| one != other).count()
 }
 
 /// Numbers as LIST.
@@ -226,6 +212,16 @@ pub fn list(numbers: &[i64]) -> String {
     }
     let words: Vec<String> = numbers.iter().map(i64::to_string).collect();
     words.join(",")
+}
+
+/// Numbers as LIST, now and then some with leading zeros or as `-0`.
+fn decorated(numbers: &[i64], random: &mut Random) -> String {
+    let word = list(numbers);
+    if random.one_in(10) {
+        word.replace(",0,", ",-0,").replace(",2", ",002")
+    } else {
+        word
+    }
 }
 
 fn next(room: i64, random: &mut Random) -> Draft {
@@ -301,10 +297,7 @@ fn open(present: &[(usize, i64)], wanted: &[(usize, i64)]) -> String {
 }
 
 fn no_job(sample: &mut Sample) {
-    sample.show(
-        "Before the first opening there is no job",
-        "restore next 11",
-    );
+    sample.show("Before the first opening there is no job", "restore next 11");
     sample.more(WRITTEN);
     sample.more("restore reply -");
     sample.more("restore left");
@@ -317,23 +310,11 @@ fn no_job(sample: &mut Sample) {
 }
 
 fn steps(sample: &mut Sample) {
-    sample.show(
-        "The example pack of 000 as it is wanted: done at once, and again",
-        open(&[], &[]),
-    );
-    for line in [
-        "restore left",
-        "restore next 0",
-        "restore next 11",
-        WRITTEN,
-        "restore left",
-    ] {
+    sample.show("The example pack of 000 as it is wanted: done at once, and again", open(&[], &[]));
+    for line in ["restore left", "restore next 0", "restore next 11", WRITTEN, "restore left"] {
         sample.more(line);
     }
-    sample.show(
-        "One setting differs: a frame, a reply, done",
-        open(&[], &[(0, 3000)]),
-    );
+    sample.show("One setting differs: a frame, a reply, done", open(&[], &[(0, 3000)]));
     for line in [
         "restore left",
         "restore next 0",
@@ -374,39 +355,15 @@ fn steps(sample: &mut Sample) {
     sample.more("restore left");
     sample.more(WRITTEN);
     sample.more("restore next 11");
-    sample.show(
-        "A refused opening keeps the job, here a waiting one",
-        open(&[], &[(3, 50), (4, 50)]),
-    );
-    for line in [
-        "restore left",
-        "restore next 11",
-        WRITTEN,
-        "restore left",
-        "restore next 11",
-    ] {
+    sample.show("A refused opening keeps the job, here a waiting one", open(&[], &[(3, 50), (4, 50)]));
+    for line in ["restore left", "restore next 11", WRITTEN, "restore left", "restore next 11"] {
         sample.more(line);
     }
-    sample.show(
-        "Words 15 to 49 are not looked at",
-        open(
-            &[(15, -1), (20, i32::MIN.into()), (49, i32::MAX.into())],
-            &[],
-        ),
-    );
+    sample
+        .show("Words 15 to 49 are not looked at", open(&[(15, -1), (20, i32::MIN.into()), (49, i32::MAX.into())], &[]));
     sample.more("restore next 11");
-    sample.show(
-        "A present temperature may be beyond its range",
-        open(&[(3, 127), (4, 126)], &[]),
-    );
-    for line in [
-        "restore left",
-        "restore next 11",
-        WRITTEN,
-        "restore next 11",
-        WRITTEN,
-        "restore next 11",
-    ] {
+    sample.show("A present temperature may be beyond its range", open(&[(3, 127), (4, 126)], &[]));
+    for line in ["restore left", "restore next 11", WRITTEN, "restore next 11", WRITTEN, "restore next 11"] {
         sample.more(line);
     }
 }
@@ -425,22 +382,10 @@ fn uncut(sample: &mut Sample, comment: &str, wanted: &[(usize, i64)]) {
 
 fn pairs(sample: &mut Sample) {
     for (comment, wanted) in [
-        (
-            "Raising 55, 50 to 70, 60 writes 3 then 4 (P11)",
-            [(3, 70), (4, 60)],
-        ),
-        (
-            "Lowering 55, 50 to 45, 40 writes 4 then 3 (P11)",
-            [(3, 45), (4, 40)],
-        ),
-        (
-            "Widening 55, 50 to 60, 40: the upper goes first",
-            [(3, 60), (4, 40)],
-        ),
-        (
-            "Narrowing 55, 50 to 54, 53: the lower goes first",
-            [(3, 54), (4, 53)],
-        ),
+        ("Raising 55, 50 to 70, 60 writes 3 then 4 (P11)", [(3, 70), (4, 60)]),
+        ("Lowering 55, 50 to 45, 40 writes 4 then 3 (P11)", [(3, 45), (4, 40)]),
+        ("Widening 55, 50 to 60, 40: the upper goes first", [(3, 60), (4, 40)]),
+        ("Narrowing 55, 50 to 54, 53: the lower goes first", [(3, 54), (4, 53)]),
         ("The lower member alone", [(3, 55), (4, 54)]),
         ("The upper member alone", [(3, 51), (4, 50)]),
         ("Raising 7 above 6", [(6, 10), (7, 11)]),
@@ -457,40 +402,22 @@ fn pairs(sample: &mut Sample) {
     uncut(
         sample,
         "All pairs at once, two up and two down",
-        &[
-            (3, 119),
-            (4, 118),
-            (6, -40),
-            (7, -39),
-            (9, -38),
-            (10, -39),
-            (12, 119),
-            (13, 120),
-        ],
+        &[(3, 119), (4, 118), (6, -40), (7, -39), (9, -38), (10, -39), (12, 119), (13, 120)],
     );
 }
 
 fn replies(sample: &mut Sample) {
-    sample.show(
-        "A reply before a frame: 14, however wrong it is",
-        open(&[], &[(1, 0), (2, 0)]),
-    );
-    sample.more("restore reply -");
+    sample.show("Two settings differ", open(&[], &[(1, 0), (2, 0)]));
+    sample.show("A reply before a frame, however wrong it is: 14", "restore reply -");
     sample.more(WRITTEN);
     sample.more("restore next 11");
-    sample.show(
-        "Refused replies leave the job waiting: 1",
-        "restore reply FE010ED2FF",
-    );
+    sample.show("Refused replies leave the job waiting: 1", "restore reply FE010ED2FF");
     for (comment, line) in [
         ("2", "restore reply FD010ED2FFFD"),
         ("4", "restore reply FE020ED2FFFD"),
         ("3", "restore reply FE010ED2FFFE"),
         ("5", "restore reply FE010ED2FEFD"),
-        (
-            "7, the reply to another request",
-            "restore reply FE01056394FD",
-        ),
+        ("7, the reply to another request", "restore reply FE01056394FD"),
         ("8, a reply with data", "restore reply FE020E004D6FFD"),
         ("8, a failure with data", "restore reply FE0224785BDDFD"),
         ("and still it waits", "restore next 11"),
@@ -502,38 +429,19 @@ fn replies(sample: &mut Sample) {
     for code in FAILURES {
         sample.show("A failure stops the job", open(&[], &[(1, 0), (2, 0)]));
         sample.more("restore next 11");
-        sample.more(format!(
-            "restore reply {}",
-            super::lines::hex(&frame(code, &[]))
-        ));
-        for line in [
-            "restore next 11",
-            "restore next 0",
-            WRITTEN,
-            "restore reply -",
-            "restore left",
-        ] {
+        sample.more(format!("restore reply {}", super::lines::hex(&frame(code, &[]))));
+        for line in ["restore next 11", "restore next 0", WRITTEN, "restore reply -", "restore left"] {
             sample.more(line);
         }
     }
-    sample.show(
-        "A new one on a fresh reading goes on",
-        open(&[(1, 0)], &[(1, 0), (2, 0)]),
-    );
-    for line in [
-        "restore left",
-        "restore next 11",
-        WRITTEN,
-        "restore next 11",
-    ] {
+    sample.show("A new one on a fresh reading goes on", open(&[(1, 0)], &[(1, 0), (2, 0)]));
+    for line in ["restore left", "restore next 11", WRITTEN, "restore next 11"] {
         sample.more(line);
     }
 }
 
 fn openings(sample: &mut Sample) {
-    let lists = |present: &[i64], wanted: &[i64]| {
-        format!("restore open {} {}", list(present), list(wanted))
-    };
+    let lists = |present: &[i64], wanted: &[i64]| format!("restore open {} {}", list(present), list(wanted));
     let (words, values) = (example(&[]), example(&[])[..SETTINGS].to_vec());
     sample.show("Not 50 present words: 8", lists(&words[..49], &values));
     sample.more(lists(&[&words[..], &[0]].concat(), &values));
@@ -543,56 +451,37 @@ fn openings(sample: &mut Sample) {
     sample.more(lists(&words, &[]));
     sample.more(lists(&words, &words));
     sample.more("restore open - -");
-    sample.show(
-        "A present word outside its type: 8",
-        open(&[(0, 32_768)], &[]),
-    );
+    sample.show("A list is as long as its line lets it be: 8", format!("restore open {} -", list(&[7; 8000])));
+    sample.more(format!("restore open {} {}", list(&[0; 4000]), list(&[1; 4000])));
+    sample.show("A present word outside its type: 8", open(&[(0, 32_768)], &[]));
     for (setting, (least, most)) in TYPES.iter().enumerate() {
         sample.more(open(&[(setting, least - 1)], &[]));
         sample.more(open(&[(setting, most + 1)], &[]));
     }
-    sample.show(
-        "A wanted value outside its range: 9",
-        open(&[], &[(0, 5001)]),
-    );
+    sample.show("A wanted value outside its range: 9", open(&[], &[(0, 5001)]));
     for (setting, (least, most)) in RANGES.iter().enumerate() {
         sample.more(open(&[], &[(setting, least - 1)]));
         sample.more(open(&[], &[(setting, most + 1)]));
     }
     sample.show("or its type: 9", open(&[], &[(3, 128)]));
-    sample.show(
-        "Wanted 50, 50 for 3 and 4: 12",
-        open(&[], &[(3, 50), (4, 50)]),
-    );
-    sample.show(
-        "Every wanted pair crossed or equal: 12",
-        open(&[], &[(3, 49)]),
-    );
+    sample.show("Wanted 50, 50 for 3 and 4: 12", open(&[], &[(3, 50), (4, 50)]));
+    sample.show("Every wanted pair crossed or equal: 12", open(&[], &[(3, 49)]));
     for (upper, lower) in PAIRS {
         sample.more(open(&[], &[(upper, 20), (lower, 20)]));
         sample.more(open(&[], &[(upper, 20), (lower, 21)]));
     }
-    sample.show(
-        "Every present pair crossed or equal: 15",
-        open(&[(3, 50)], &[]),
-    );
+    sample.show("Every present pair crossed or equal: 15", open(&[(3, 50)], &[]));
     for (upper, lower) in PAIRS {
         sample.more(open(&[(upper, 20), (lower, 20)], &[]));
         sample.more(open(&[(upper, 20), (lower, 21)], &[]));
     }
-    sample.show(
-        "Two and more errors: 8 before 9",
-        open(&[(3, 128)], &[(2, 17)]),
-    );
+    sample.show("Two and more errors: 8 before 9", open(&[(3, 128)], &[(2, 17)]));
     sample.show("8 before 12", open(&[(3, 128)], &[(3, 50)]));
     sample.show("8 before 15", open(&[(3, 50), (1, 256)], &[]));
     sample.show("9 before 12", open(&[], &[(2, 17), (3, 50)]));
     sample.show("9 before 15", open(&[(3, 50)], &[(2, 17)]));
     sample.show("12 before 15", open(&[(3, 50)], &[(3, 50)]));
-    sample.show(
-        "8 before all",
-        open(&[(3, 50), (1, 256)], &[(2, 17), (3, 50)]),
-    );
+    sample.show("8 before all", open(&[(3, 50), (1, 256)], &[(2, 17), (3, 50)]));
 }
 
 fn no_calls(sample: &mut Sample) {
@@ -601,26 +490,14 @@ fn no_calls(sample: &mut Sample) {
         sample.more(line);
     }
     sample.show("Too few words", "restore");
-    for line in [
-        "restore open",
-        "restore open -",
-        "restore next",
-        "restore reply",
-    ] {
+    for line in ["restore open", "restore open -", "restore next", "restore reply"] {
         sample.more(line);
     }
     sample.show("Too many words", "restore left 11");
-    for line in [
-        "restore open - - -",
-        "restore next 11 11",
-        "restore reply - -",
-    ] {
+    for line in ["restore open - - -", "restore next 11 11", "restore reply - -"] {
         sample.more(line);
     }
-    sample.show(
-        "Parameters from left to right, a list as a whole",
-        "restore open 1,x 1",
-    );
+    sample.show("Parameters from left to right, a list as a whole", "restore open 1,x 1");
     for line in [
         "restore open 1,2147483648 x",
         "restore open 2147483648,x 1",
@@ -668,16 +545,10 @@ mod tests {
         ]
         .map(String::from)
         .to_vec();
-        for (call, refusals) in [
-            ("open", &[8, 9, 12, 15][..]),
-            ("next", &[11, 14]),
-            ("reply", &[14, 1, 2, 4, 3, 5, 7, 8]),
-        ] {
-            expected.extend(
-                refusals
-                    .iter()
-                    .map(|n| format!("restore {call}: refused {n}")),
-            );
+        for (call, refusals) in
+            [("open", &[8, 9, 12, 15][..]), ("next", &[11, 14]), ("reply", &[14, 1, 2, 4, 3, 5, 7, 8])]
+        {
+            expected.extend(refusals.iter().map(|n| format!("restore {call}: refused {n}")));
         }
         let expected: Vec<&str> = expected.iter().map(String::as_str).collect();
         assert_kinds("restore", 60_000, &expected);
