@@ -10,17 +10,11 @@ pub struct Fields<'a> {
 
 impl<'a> Fields<'a> {
     pub fn low_first(payload: &'a [u8]) -> Fields<'a> {
-        Fields {
-            rest: payload,
-            high_first: false,
-        }
+        Fields { rest: payload, high_first: false }
     }
 
     pub fn high_first(payload: &'a [u8]) -> Fields<'a> {
-        Fields {
-            rest: payload,
-            high_first: true,
-        }
+        Fields { rest: payload, high_first: true }
     }
 
     pub fn bytes(&mut self, count: usize) -> Result<&'a [u8], Refusal> {
@@ -37,22 +31,14 @@ impl<'a> Fields<'a> {
     pub fn number(&mut self, width: usize) -> Result<i64, Refusal> {
         let bytes = self.bytes(width)?;
         let add = |number: i64, byte: &u8| number * 256 + i64::from(*byte);
-        Ok(if self.high_first {
-            bytes.iter().fold(0, add)
-        } else {
-            bytes.iter().rev().fold(0, add)
-        })
+        Ok(if self.high_first { bytes.iter().fold(0, add) } else { bytes.iter().rev().fold(0, add) })
     }
 
     /// A number of so many bytes in two's complement.
     pub fn signed(&mut self, width: usize) -> Result<i64, Refusal> {
         let number = self.number(width)?;
         let limit = 1 << (8 * width);
-        Ok(if number < limit / 2 {
-            number
-        } else {
-            number - limit
-        })
+        Ok(if number < limit / 2 { number } else { number - limit })
     }
 
     /// A count of things that follow, within its limits.

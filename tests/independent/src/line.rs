@@ -101,10 +101,7 @@ pub struct Words<'a>(Vec<&'a [u8]>);
 impl<'a> Words<'a> {
     /// The words of a line, or nothing if the line answers nothing.
     pub fn of(line: &'a [u8]) -> Option<Words<'a>> {
-        let words: Vec<&[u8]> = line
-            .split(|&byte| byte == b' ')
-            .filter(|word| !word.is_empty())
-            .collect();
+        let words: Vec<&[u8]> = line.split(|&byte| byte == b' ').filter(|word| !word.is_empty()).collect();
         if words.first()?.starts_with(b"#") {
             return None;
         }
@@ -131,7 +128,7 @@ impl<'a> Words<'a> {
         if word == b"-" {
             return Ok(Vec::new());
         }
-        if word.len() % 2 != 0 {
+        if !word.len().is_multiple_of(2) {
             return Err(NoCall::NotHex);
         }
         word.chunks(2).map(byte_of).collect()
@@ -158,14 +155,8 @@ impl<'a> Words<'a> {
         if word == b"-" {
             return Ok(Vec::new());
         }
-        let numbers: Vec<i64> = word
-            .split(|&byte| byte == b',')
-            .map(number_of)
-            .collect::<Result<_, _>>()?;
-        numbers
-            .into_iter()
-            .map(|number| in_range(number, least, most))
-            .collect()
+        let numbers: Vec<i64> = word.split(|&byte| byte == b',').map(number_of).collect::<Result<_, _>>()?;
+        numbers.into_iter().map(|number| in_range(number, least, most)).collect()
     }
 }
 
@@ -195,9 +186,7 @@ fn number_of(word: &[u8]) -> Result<i64, NoCall> {
     if digits.is_empty() || !digits.iter().all(u8::is_ascii_digit) {
         return Err(NoCall::NotANumber);
     }
-    let size = digits.iter().fold(0, |size: i64, &digit| {
-        (size * 10 + i64::from(digit - b'0')).min(TOO_LARGE)
-    });
+    let size = digits.iter().fold(0, |size: i64, &digit| (size * 10 + i64::from(digit - b'0')).min(TOO_LARGE));
     Ok(if negative { -size } else { size })
 }
 
@@ -276,14 +265,7 @@ mod tests {
 
     #[test]
     fn some_lines_answer_nothing() {
-        for line in [
-            &b""[..],
-            b" ",
-            b"    ",
-            b"#",
-            b"  # check",
-            b"#check crc 00",
-        ] {
+        for line in [&b""[..], b" ", b"    ", b"#", b"  # check", b"#check crc 00"] {
             assert!(Words::of(line).is_none());
         }
         assert!(Words::of(b"\t#").is_some());

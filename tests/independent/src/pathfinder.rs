@@ -96,15 +96,8 @@ fn words(data: &[u8], count: usize, room: usize) -> Result<Vec<i32>, Refusal> {
 
 /// Four bytes, the low one first, as a signed number.
 fn word(bytes: &[u8]) -> i32 {
-    let size = bytes
-        .iter()
-        .rev()
-        .fold(0, |size: i64, &byte| size * 256 + i64::from(byte));
-    (if size < 1 << 31 {
-        size
-    } else {
-        size - (1 << 32)
-    }) as i32
+    let size = bytes.iter().rev().fold(0, |size: i64, &byte| size * 256 + i64::from(byte));
+    (if size < 1 << 31 { size } else { size - (1 << 32) }) as i32
 }
 
 /// The types of 000, "Data Type Abbreviations", and two of them with a meaning of their own: a voltage counted in
@@ -351,9 +344,7 @@ pub fn answer(line: &Words) -> Result<String, NoCall> {
 
 fn shown_reply(reply: Reply) -> String {
     match reply {
-        Reply::Words(words) => words
-            .iter()
-            .fold("words".to_string(), |text, word| format!("{text} {word}")),
+        Reply::Words(words) => words.iter().fold("words".to_string(), |text, word| format!("{text} {word}")),
         Reply::Name(name) => format!("name {}", shown(&name)),
         Reply::Written => "written".to_string(),
         Reply::Failure(code) => format!("failure {code:02X}"),
@@ -386,18 +377,12 @@ mod tests {
             let frame = frame(opcode, &examples::bytes(words));
             assert_eq!(frame[frame.len() - 3..frame.len() - 1], printed);
             let count = words.len();
-            assert_eq!(
-                read(opcode, count, &frame),
-                Ok(Reply::Words(words.to_vec()))
-            );
+            assert_eq!(read(opcode, count, &frame), Ok(Reply::Words(words.to_vec())));
             assert_eq!(read(opcode, count - 1, &frame), Err(Refusal::Room));
         }
         let name = frame(0x05, b"PATHFINDER BMS");
         assert_eq!(name[17..], [0x7A, 0x5E, 0xFD]);
-        assert_eq!(
-            read(0x05, 14, &name),
-            Ok(Reply::Name(b"PATHFINDER BMS".to_vec()))
-        );
+        assert_eq!(read(0x05, 14, &name), Ok(Reply::Name(b"PATHFINDER BMS".to_vec())));
         assert_eq!(read(0x05, 13, &name), Err(Refusal::Room));
     }
 
@@ -491,10 +476,7 @@ mod tests {
         input[0] = 0xFD;
         assert_eq!(read(0x02, 0, &input), Err(Refusal::FirstMark));
         assert_eq!(read(0x02, 0, &input[..5]), Err(Refusal::TooShort));
-        assert_eq!(
-            read(0x02, 0, &[0xFE, 0, 0, 0, 0xFD]),
-            Err(Refusal::TooShort)
-        );
+        assert_eq!(read(0x02, 0, &[0xFE, 0, 0, 0, 0xFD]), Err(Refusal::TooShort));
     }
 
     #[test]

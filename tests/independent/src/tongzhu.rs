@@ -183,9 +183,7 @@ fn write(room: usize, request: Request) -> Result<Vec<u8>, Refusal> {
         Request::Ask(function @ (0x11 | 0x12 | 0x14 | 0x15)) => frame(function, &[]),
         Request::Ask(SET_TIME) => return Err(Refusal::Shape),
         Request::Ask(_) => return Err(Refusal::Request),
-        Request::SetTime(time) if is_time(time) => {
-            frame(SET_TIME, &time.map(|number| number / 10 * 16 + number % 10))
-        }
+        Request::SetTime(time) if is_time(time) => frame(SET_TIME, &time.map(|number| number / 10 * 16 + number % 10)),
         Request::SetTime(_) => return Err(Refusal::Value),
     };
     if room < frame.len() {
@@ -224,9 +222,7 @@ pub fn answer(line: &Words) -> Result<String, NoCall> {
                 Request::SetTime(time)
             };
             let frame = write(room, request);
-            Ok(refusable(
-                frame.map(|frame| format!("frame {}", shown(&frame))),
-            ))
+            Ok(refusable(frame.map(|frame| format!("frame {}", shown(&frame)))))
         }
         _ => Err(NoCall::UnknownWord),
     }
@@ -235,9 +231,7 @@ pub fn answer(line: &Words) -> Result<String, NoCall> {
 fn shown_request(request: Request) -> String {
     match request {
         Request::Ask(function) => format!("ask {function:02X}"),
-        Request::SetTime(time) => time.iter().fold("set_time".to_string(), |text, number| {
-            format!("{text} {number}")
-        }),
+        Request::SetTime(time) => time.iter().fold("set_time".to_string(), |text, number| format!("{text} {number}")),
     }
 }
 
@@ -247,9 +241,7 @@ mod tests {
 
     /// A whole frame as 002 prints it.
     fn printed(text: &str) -> Vec<u8> {
-        text.split_whitespace()
-            .map(|byte| u8::from_str_radix(byte, 16).unwrap())
-            .collect()
+        text.split_whitespace().map(|byte| u8::from_str_radix(byte, 16).unwrap()).collect()
     }
 
     #[test]
@@ -268,9 +260,7 @@ mod tests {
 
     #[test]
     fn the_example_of_monitor_2() {
-        let reply = printed(
-            "7F 10 02 1B 11 01 00 00 00 14 00 45 10 33 10 1D 15 1E 1E 00 00 C2 01 F4 01 C0 B0",
-        );
+        let reply = printed("7F 10 02 1B 11 01 00 00 00 14 00 45 10 33 10 1D 15 1E 1E 00 00 C2 01 F4 01 C0 B0");
         assert_eq!(
             read(0x11, &reply).unwrap(),
             "monitor2 status 1 0 0 0 current_100ma 20 highest_mv 4165 lowest_mv 4147 total_10mv 5405 hottest_c 30 \
@@ -290,10 +280,7 @@ mod tests {
         assert_eq!(parse(&request), Ok(time));
         assert_eq!(write(12, time), Ok(request));
         assert_eq!(write(11, time), Err(Refusal::Room));
-        assert_eq!(
-            read(0x30, &printed("7F 10 02 07 30 01 37")).unwrap(),
-            "done"
-        );
+        assert_eq!(read(0x30, &printed("7F 10 02 07 30 01 37")).unwrap(), "done");
         for text in [
             "7F 10 02 06 22 47",
             "7F 10 02 0C 32 01 00 78 00 C8 00 F0",
@@ -329,10 +316,7 @@ mod tests {
         assert_eq!(read(0x30, &frame(0x30, &[2])).unwrap(), "not_done");
         assert_eq!(read(0x30, &frame(0x30, &[0])), Err(Refusal::Value));
         assert_eq!(read(0x30, &frame(0x30, &[3, 3])), Err(Refusal::Shape));
-        assert_eq!(
-            read(0x15, &frame(0x15, &[0x00, 0x80])).unwrap(),
-            "current_100ma -32768"
-        );
+        assert_eq!(read(0x15, &frame(0x15, &[0x00, 0x80])).unwrap(), "current_100ma -32768");
     }
 
     #[test]
@@ -346,11 +330,7 @@ mod tests {
             (8, 0, 17, false),
         ] {
             let mut message = vec![0; 6];
-            for (count, size) in [
-                (cells, 2 * cells + cells.div_ceil(8)),
-                (sensors, sensors),
-                (switches, switches),
-            ] {
+            for (count, size) in [(cells, 2 * cells + cells.div_ceil(8)), (sensors, sensors), (switches, switches)] {
                 message.push(count as u8);
                 message.resize(message.len() + size, 7);
             }

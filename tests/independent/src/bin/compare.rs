@@ -32,10 +32,7 @@ fn main() -> ExitCode {
 
 /// The number of differences.
 fn compare(lines: &str, names: [&str; 2], files: [&str; 2]) -> io::Result<usize> {
-    let mut answers = [
-        BufReader::new(File::open(files[0])?),
-        BufReader::new(File::open(files[1])?),
-    ];
+    let mut answers = [BufReader::new(File::open(files[0])?), BufReader::new(File::open(files[1])?)];
     let mut different = 0;
     let mut number = 0;
     let mut trouble = None;
@@ -107,10 +104,5 @@ fn text(bytes: &[u8]) -> String {
         return bytes.escape_ascii().to_string();
     }
     let (start, end) = (&bytes[..WIDTH / 2], &bytes[bytes.len() - WIDTH / 2..]);
-    format!(
-        "{}..{} ({} bytes)",
-        start.escape_ascii(),
-        end.escape_ascii(),
-        bytes.len()
-    )
+    format!("{}..{} ({} bytes)", start.escape_ascii(), end.escape_ascii(), bytes.len())
 }

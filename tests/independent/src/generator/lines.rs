@@ -44,11 +44,7 @@ impl Draft {
         let mut word = number.to_string();
         if random.one_in(25) {
             let zeros = "0".repeat(random.below(4) + 1);
-            let sign = if number < 0 || (number == 0 && random.one_in(2)) {
-                "-"
-            } else {
-                ""
-            };
+            let sign = if number < 0 || (number == 0 && random.one_in(2)) { "-" } else { "" };
             word = format!("{sign}{zeros}{}", number.unsigned_abs());
         }
         self.word(word)
@@ -78,15 +74,7 @@ pub fn written(draft: &Draft, random: &mut Random) -> Vec<u8> {
         line.extend_from_slice(word);
     }
     line.extend(spaces(random, 0));
-    let end: &[u8] = random.pick(&[
-        &b"\n"[..],
-        b"\n",
-        b"\r\n",
-        b"\r\n",
-        b" \r\n",
-        b"\r \n",
-        b"\r\r\n",
-    ]);
+    let end: &[u8] = random.pick(&[&b"\n"[..], b"\n", b"\r\n", b"\r\n", b" \r\n", b"\r \n", b"\r\r\n"]);
     line.extend_from_slice(end);
     line
 }
@@ -121,7 +109,11 @@ pub fn spoil(draft: &mut Draft, random: &mut Random) {
         if count == 0 {
             return;
         }
-        let place = random.below(count);
+        // Half of the time a parameter rather than one of the words that choose the call.
+        let place = match random.below(2) {
+            0 if count > 2 => 2 + random.below(count - 2),
+            _ => random.below(count),
+        };
         match random.below(10) {
             0 => draft.0.truncate(place.max(1)),
             1 => {
@@ -141,14 +133,15 @@ fn change(word: &mut Vec<u8>, random: &mut Random) {
         return;
     }
     let place = random.below(word.len());
-    match random.below(8) {
+    match random.below(10) {
         0 => word.make_ascii_uppercase(),
         1 => word.make_ascii_lowercase(),
         2 => word.truncate(word.len().saturating_sub(1).max(1)),
         3 => word.push(random.pick(b"0aZ-,\t \r.")),
         4 => word.insert(0, random.pick(b"0-+,#\t x")),
         5 => word.insert(place, random.pick(b"0F-, \t:Gg/@`\x00\x7F\xFF")),
-        6 => word[place] = random.byte_but(b"\n"),
+        6 | 7 => word[place] = random.pick(b"gG:/@`+-,.\t\r\x00\xB0"),
+        8 => word[place] = random.byte_but(b"\n"),
         _ => word[place] ^= 0x20,
     }
     word.retain(|&byte| byte != b'\n');

@@ -3,8 +3,11 @@
 
 mod check;
 pub mod lines;
+mod old58;
+mod pace;
 mod pathfinder;
 pub mod random;
+pub mod restore;
 mod tongzhu;
 
 use lines::Draft;
@@ -15,7 +18,7 @@ use std::io::{self, Write};
 pub const DEFAULT: &[&str] = &["check"];
 
 /// Every area there is.
-const AREAS: &[Area] = &[check::AREA, pathfinder::AREA, tongzhu::AREA];
+const AREAS: &[Area] = &[check::AREA, pathfinder::AREA, tongzhu::AREA, pace::AREA, old58::AREA, restore::AREA];
 
 /// The seed of the sample's lines and how many of them each area has.
 const SAMPLE_SEED: u64 = 1;
@@ -43,11 +46,7 @@ impl<F: FnMut(&mut Random) -> Draft> Drafts for F {
 
 /// The areas of these names, those of `DEFAULT` if there are none; or the first name that is no area's.
 pub fn areas(names: &[String]) -> Result<Vec<&'static Area>, String> {
-    let names: Vec<&str> = if names.is_empty() {
-        DEFAULT.to_vec()
-    } else {
-        names.iter().map(String::as_str).collect()
-    };
+    let names: Vec<&str> = if names.is_empty() { DEFAULT.to_vec() } else { names.iter().map(String::as_str).collect() };
     names
         .into_iter()
         .map(|name| {
@@ -91,10 +90,11 @@ fn line(run: &mut dyn Drafts, random: &mut Random) -> Vec<u8> {
 pub struct Sample(Vec<u8>);
 
 impl Sample {
-    /// Adds a line with the comment above it.
+    /// Adds a line with the comment above it, or below the one there is if the comment is empty.
     pub fn show(&mut self, comment: &str, line: impl AsRef<[u8]>) {
-        self.0
-            .extend_from_slice(format!("# {comment}\n").as_bytes());
+        if !comment.is_empty() {
+            self.more(format!("# {comment}"));
+        }
         self.more(line);
     }
 
@@ -125,7 +125,7 @@ pub fn sample(areas: &[&Area], output: &mut impl Write) -> io::Result<()> {
 mod tests {
     use super::*;
     use crate::console::Console;
-    use crate::line::Splitter;
+    use crate::line::{Line, Splitter};
     use std::collections::BTreeMap;
 
     #[test]
@@ -134,6 +134,31 @@ mod tests {
         let mut printed = Vec::new();
         sample(&every, &mut printed).unwrap();
         assert!(printed.len() < 1_500_000);
+    }
+
+    /// A comment that ends with a colon and a number says how the line below it is refused.
+    #[test]
+    fn the_comments_of_the_sample_are_true() {
+        let every: Vec<&Area> = AREAS.iter().collect();
+        let mut printed = Vec::new();
+        sample(&every, &mut printed).unwrap();
+        let mut console = Console::default();
+        let (mut said, mut true_ones) = (None, 0);
+        Splitter::default().feed(&printed, |line| match (console.answer(line), line) {
+            (None, Line::Bytes(bytes)) => {
+                let comment = String::from_utf8_lossy(bytes).to_string();
+                let end = comment.rsplit_once(": ").and_then(|(_, end)| end.split([',', ' ']).next()?.parse().ok());
+                said = end.map(|number: u8| (number, comment));
+            }
+            (Some(answer), _) => {
+                if let Some((number, comment)) = said.take() {
+                    assert_eq!(answer, format!("refused {number}"), "{comment}");
+                    true_ones += 1;
+                }
+            }
+            (None, Line::TooLong) => panic!("no answer to a line that is too long"),
+        });
+        assert!(true_ones > 200, "only {true_ones} comments");
     }
 
     /// How often each kind of answer comes to the random lines of an area. The kind is the call's two first words and
@@ -146,8 +171,8 @@ mod tests {
         let mut kinds = BTreeMap::new();
         Splitter::default().feed(&input, |line| {
             let call = match line {
-                crate::line::Line::Bytes(bytes) => String::from_utf8_lossy(bytes).to_string(),
-                crate::line::Line::TooLong => String::new(),
+                Line::Bytes(bytes) => String::from_utf8_lossy(bytes).to_string(),
+                Line::TooLong => String::new(),
             };
             let Some(answer) = console.answer(line) else {
                 return;
@@ -156,11 +181,8 @@ mod tests {
                 let words = text.split(' ').filter(|word| !word.is_empty());
                 words.take(count).collect::<Vec<_>>().join(" ")
             };
-            let kind = if answer.starts_with('?') {
-                answer
-            } else {
-                format!("{}: {}", first(&call, 2), first(&answer, 2))
-            };
+            let kind =
+                if answer.starts_with('?') { answer } else { format!("{}: {}", first(&call, 2), first(&answer, 2)) };
             *kinds.entry(kind).or_default() += 1;
         });
         kinds

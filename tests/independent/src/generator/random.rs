@@ -11,9 +11,7 @@ impl Random {
 
     /// A source of its own for a name, so that one area's lines do not depend on another's.
     pub fn named(seed: u64, name: &str) -> Random {
-        let mixed = name.bytes().fold(seed, |mixed, byte| {
-            Random(mixed ^ u64::from(byte)).draw().rotate_left(7)
-        });
+        let mixed = name.bytes().fold(seed, |mixed, byte| Random(mixed ^ u64::from(byte)).draw().rotate_left(7));
         Random(mixed)
     }
 
@@ -77,8 +75,11 @@ impl Random {
         }
     }
 
-    /// ROOM for a call that needs so much: enough, or too little if that is possible.
+    /// ROOM for a call that needs so much: enough, or too little if that is possible; seldom no ROOM at all.
     pub fn room(&mut self, needed: usize, too_little: bool) -> i64 {
+        if self.one_in(80) {
+            return self.pick(&[8193, -1, 8193, 16_384, -8192]);
+        }
         let room = match self.below(4) {
             _ if too_little && needed > 0 => match self.below(3) {
                 0 => needed - 1,
@@ -104,6 +105,14 @@ impl Random {
 pub struct Errors(Vec<u8>);
 
 impl Errors {
+    pub fn of(numbers: &[u8]) -> Errors {
+        Errors(numbers.to_vec())
+    }
+
+    pub fn is_empty(&self) -> bool {
+        self.0.is_empty()
+    }
+
     pub fn has(&self, number: u8) -> bool {
         self.0.contains(&number)
     }

@@ -6,18 +6,12 @@ use super::random::{Errors, Random};
 use super::{Area, Sample};
 use crate::checks::sum8;
 
-pub const AREA: Area = Area {
-    name: "tz",
-    chosen,
-    start: || Box::new(draft),
-};
+pub const AREA: Area = Area { name: "tz", chosen, start: || Box::new(draft) };
 
 const LISTED: [u8; 5] = [0x11, 0x12, 0x14, 0x15, 0x30];
 
 /// The functions next to those that mean something, and some others.
-const OTHERS: [u8; 12] = [
-    0x01, 0x10, 0x13, 0x16, 0x17, 0x1C, 0x20, 0x22, 0x23, 0x31, 0x32, 0xFF,
-];
+const OTHERS: [u8; 12] = [0x01, 0x10, 0x13, 0x16, 0x17, 0x1C, 0x20, 0x22, 0x23, 0x31, 0x32, 0xFF];
 
 fn draft(random: &mut Random) -> Draft {
     match random.below(10) {
@@ -40,7 +34,7 @@ fn read(random: &mut Random) -> Draft {
         0x12 => monitor3(errors.has(8) && random.one_in(2), random),
         0x14 => content(random, 4),
         0x15 => content(random, 2),
-        _ if errors.has(9) => vec![random.byte_but(&[1, 2])],
+        _ if errors.has(9) => vec![random.pick(&[0x00, 0x03, 0x10, 0x81, 0xFF])],
         _ => vec![random.pick(&[1, 2])],
     };
     if random.one_in(8) {
@@ -62,9 +56,7 @@ fn read(random: &mut Random) -> Draft {
             }
         }
     }
-    Draft::of("tz read")
-        .byte(asked, random)
-        .hex(&framed(function, &message, &errors, random), random)
+    Draft::of("tz read").byte(asked, random).hex(&framed(function, &message, &errors, random), random)
 }
 
 fn content(random: &mut Random, size: usize) -> Vec<u8> {
@@ -239,14 +231,9 @@ fn write(random: &mut Random) -> Draft {
         } else {
             random.pick(&LISTED[..4])
         };
-        return Draft::of("tz write")
-            .number(random.room(6, errors.has(11)), random)
-            .word("ask")
-            .byte(function, random);
+        return Draft::of("tz write").number(random.room(6, errors.has(11)), random).word("ask").byte(function, random);
     }
-    let mut draft = Draft::of("tz write")
-        .number(random.room(12, errors.has(11)), random)
-        .word("set_time");
+    let mut draft = Draft::of("tz write").number(random.room(12, errors.has(11)), random).word("set_time");
     for number in time(!errors.has(9), random) {
         draft = draft.number(number.into(), random);
     }
@@ -262,8 +249,7 @@ fn frame(function: u8, message: &[u8]) -> Vec<u8> {
 }
 
 /// 002, 6.1.4.2 and 6.2.4.2.
-const MONITOR3: &str =
-    "7F10023B1201000000100010A60DEB0DC30DB90DC20DF60DEA0DE50D050EE70DE50DEC0D050EF40DE20DE40D\
+const MONITOR3: &str = "7F10023B1201000000100010A60DEB0DC30DB90DC20DF60DEA0DE50D050EE70DE50DEC0D050EF40DE20DE40D\
                         0000021112011103007800C800C0E5";
 const MONITOR2: &str = "7F10021B11010000001400451033101D151E1E0000C201F401C0B0";
 
@@ -276,21 +262,11 @@ fn chosen(sample: &mut Sample) {
 }
 
 fn replies(sample: &mut Sample) {
-    let read = |asked: u8, function: u8, message: &[u8]| {
-        format!("tz read {asked:02X} {}", hex(&frame(function, message)))
-    };
-    sample.show(
-        "002, 6.1.4.2: monitoring 3",
-        format!("tz read 12 {MONITOR3}"),
-    );
-    sample.show(
-        "002, 6.2.4.2: monitoring 2; the remaining capacity is C2 01",
-        format!("tz read 11 {MONITOR2}"),
-    );
-    sample.show(
-        "002, 6.11.4.2: the time is set",
-        "tz read 30 7F100207300137",
-    );
+    let read =
+        |asked: u8, function: u8, message: &[u8]| format!("tz read {asked:02X} {}", hex(&frame(function, message)));
+    sample.show("002, 6.1.4.2: monitoring 3", format!("tz read 12 {MONITOR3}"));
+    sample.show("002, 6.2.4.2: monitoring 2; the remaining capacity is C2 01", format!("tz read 11 {MONITOR2}"));
+    sample.show("002, 6.11.4.2: the time is set", "tz read 30 7F100207300137");
     sample.show("and is not", read(0x30, 0x30, &[2]));
     sample.show("Status and current", read(0x14, 0x14, &[1, 2, 4, 0x80]));
     sample.more(read(0x15, 0x15, &[0x10, 0x00]));
@@ -298,21 +274,12 @@ fn replies(sample: &mut Sample) {
     sample.more(read(0x15, 0x15, &[0x00, 0x80]));
     sample.more(read(0x15, 0x15, &[0xFF, 0x7F]));
     let mut message = vec![0xFF; 21];
-    sample.show(
-        "Monitoring 2 with the greatest numbers",
-        read(0x11, 0x11, &message),
-    );
+    sample.show("Monitoring 2 with the greatest numbers", read(0x11, 0x11, &message));
     message[12] = 0x80;
     message[13] = 0x7F;
     sample.show("Temperatures are signed bytes", read(0x11, 0x11, &message));
-    sample.show(
-        "Monitoring 3 with one cell and no sensors",
-        read(0x12, 0x12, &monitor(1, 0, 0)),
-    );
-    sample.show(
-        "with eight, nine and 32 cells",
-        read(0x12, 0x12, &monitor(8, 1, 2)),
-    );
+    sample.show("Monitoring 3 with one cell and no sensors", read(0x12, 0x12, &monitor(1, 0, 0)));
+    sample.show("with eight, nine and 32 cells", read(0x12, 0x12, &monitor(8, 1, 2)));
     sample.more(read(0x12, 0x12, &monitor(9, 2, 1)));
     sample.more(read(0x12, 0x12, &monitor(32, 16, 16)));
     sample.show("Device errors", read(0x11, 0x00, &[]));
@@ -338,12 +305,7 @@ fn monitor(cells: usize, cell_sensors: usize, mos_sensors: usize) -> Vec<u8> {
 
 fn refused_replies(sample: &mut Sample) {
     let mut read = |comment: &str, asked: u8, input: &[u8]| {
-        let line = format!("tz read {asked:02X} {}", hex(input));
-        if comment.is_empty() {
-            sample.more(line);
-        } else {
-            sample.show(comment, line);
-        }
+        sample.show(comment, format!("tz read {asked:02X} {}", hex(input)));
     };
     let status = frame(0x14, &[1, 0, 0, 0]);
     // The frame with some bytes changed, its check made right again.
@@ -380,43 +342,23 @@ fn refused_replies(sample: &mut Sample) {
     read("Another address: 6", 0x14, &closed(&[(1, 0x11)]));
     read("Another version: 6", 0x14, &closed(&[(2, 0x03)]));
     read("The reply to another function: 7", 0x15, &status);
-    read(
-        "A function that is not listed: 7",
-        0x16,
-        &frame(0x16, &[1, 0, 0, 0]),
-    );
-    read(
-        "although the device reports an error",
-        0x22,
-        &frame(0x00, &[]),
-    );
+    read("A function that is not listed: 7", 0x16, &frame(0x16, &[1, 0, 0, 0]));
+    read("although the device reports an error", 0x22, &frame(0x00, &[]));
     read("also with more data", 0x22, &frame(0x00, &[0]));
     read("Function 00 is not listed: 7", 0x00, &frame(0x00, &[]));
     read("A device error with more data: 8", 0x14, &frame(0x00, &[0]));
     read("A byte too few: 8", 0x14, &frame(0x14, &[1, 0, 0]));
     read("a byte too many: 8", 0x14, &frame(0x14, &[1, 0, 0, 0, 0]));
     read("no byte: 8", 0x15, &frame(0x15, &[]));
-    read(
-        "Monitoring 2 with 20 and 22 bytes: 8",
-        0x11,
-        &frame(0x11, &[0; 20]),
-    );
+    read("Monitoring 2 with 20 and 22 bytes: 8", 0x11, &frame(0x11, &[0; 20]));
     read("", 0x11, &frame(0x11, &[0; 22]));
-    read(
-        "Monitoring 3 without a cell: 8",
-        0x12,
-        &frame(0x12, &monitor(0, 0, 0)),
-    );
+    read("Monitoring 3 without a cell: 8", 0x12, &frame(0x12, &monitor(0, 0, 0)));
     read("with 33 cells: 8", 0x12, &frame(0x12, &monitor(33, 0, 0)));
     read("with 17 sensors: 8", 0x12, &frame(0x12, &monitor(4, 17, 0)));
     read("", 0x12, &frame(0x12, &monitor(4, 0, 17)));
     let mut more = monitor(8, 1, 1);
     more.insert(6 + 1 + 16, 0);
-    read(
-        "with two balance bytes for eight cells: 8",
-        0x12,
-        &frame(0x12, &more),
-    );
+    read("with two balance bytes for eight cells: 8", 0x12, &frame(0x12, &more));
     let mut less = monitor(9, 1, 1);
     less.remove(6 + 1 + 18);
     read("with one for nine: 8", 0x12, &frame(0x12, &less));
@@ -434,21 +376,9 @@ fn refused_replies(sample: &mut Sample) {
     read("Check and address wrong: 5", 0x14, &open(&[(1, 0)]));
     read("Version and function wrong: 6", 0x15, &closed(&[(2, 1)]));
     read("Function and shape wrong: 7", 0x11, &status);
-    read(
-        "Everything wrong: 2",
-        0x16,
-        &open(&[(0, 0), (1, 0), (2, 0), (3, 0)]),
-    );
-    read(
-        "Everything but the mark: 4",
-        0x16,
-        &open(&[(1, 0), (2, 0), (3, 0)]),
-    );
-    read(
-        "Everything but mark and length: 5",
-        0x16,
-        &open(&[(1, 0), (2, 0)]),
-    );
+    read("Everything wrong: 2", 0x16, &open(&[(0, 0), (1, 0), (2, 0), (3, 0)]));
+    read("Everything but the mark: 4", 0x16, &open(&[(1, 0), (2, 0), (3, 0)]));
+    read("Everything but mark and length: 5", 0x16, &open(&[(1, 0), (2, 0)]));
     read("A device error of another version: 6", 0x14, &{
         let mut input = vec![0x7F, 0x10, 0x01, 0x06, 0x00];
         input.push(sum8(&input));
@@ -457,19 +387,10 @@ fn refused_replies(sample: &mut Sample) {
 }
 
 fn requests(sample: &mut Sample) {
-    sample.show(
-        "002, 6.1.4.1 and 6.2.4.1: requests 12 and 11",
-        "tz parse 7F1002061257",
-    );
+    sample.show("002, 6.1.4.1 and 6.2.4.1: requests 12 and 11", "tz parse 7F1002061257");
     sample.more("tz parse 7F1002061158");
-    sample.show(
-        "002, 6.11.4.1: the time is set to 2017-05-12 10:30:50",
-        "tz parse 7F10020C3017051210305075",
-    );
-    sample.show(
-        "002: functions that are not listed: 7",
-        "tz parse 7F1002062247",
-    );
+    sample.show("002, 6.11.4.1: the time is set to 2017-05-12 10:30:50", "tz parse 7F10020C3017051210305075");
+    sample.show("002: functions that are not listed: 7", "tz parse 7F1002062247");
     for line in [
         "tz parse 7F10020C3201007800C800F0",
         "tz parse 7F10020841808026",
@@ -486,30 +407,15 @@ fn requests(sample: &mut Sample) {
     parse("and the other", &frame(0x15, &[]));
     parse("Function 00 is no request: 7", &frame(0x00, &[]));
     parse("A reply is no request: 8", &frame(0x14, &[0; 4]));
-    parse(
-        "A time of five bytes: 8",
-        &frame(0x30, &[0x17, 5, 0x12, 0x10, 0x30]),
-    );
-    parse(
-        "of seven: 8",
-        &frame(0x30, &[0x17, 5, 0x12, 0x10, 0x30, 0x50, 0]),
-    );
+    parse("A time of five bytes: 8", &frame(0x30, &[0x17, 5, 0x12, 0x10, 0x30]));
+    parse("of seven: 8", &frame(0x30, &[0x17, 5, 0x12, 0x10, 0x30, 0x50, 0]));
     parse("of none: 8", &frame(0x30, &[]));
     for (comment, time) in [
-        (
-            "29 February of year 24 (P10)",
-            [0x24, 0x02, 0x29, 0x23, 0x59, 0x59],
-        ),
-        (
-            "but not of year 23: 9 (P10)",
-            [0x23, 0x02, 0x29, 0x23, 0x59, 0x59],
-        ),
+        ("29 February of year 24 (P10)", [0x24, 0x02, 0x29, 0x23, 0x59, 0x59]),
+        ("but not of year 23: 9 (P10)", [0x23, 0x02, 0x29, 0x23, 0x59, 0x59]),
         ("29 February of year 00", [0x00, 0x02, 0x29, 0, 0, 0]),
         ("30 February: 9", [0x24, 0x02, 0x30, 0, 0, 0]),
-        (
-            "31 December of year 99",
-            [0x99, 0x12, 0x31, 0x23, 0x59, 0x59],
-        ),
+        ("31 December of year 99", [0x99, 0x12, 0x31, 0x23, 0x59, 0x59]),
         ("31 April: 9", [0x24, 0x04, 0x31, 0, 0, 0]),
         ("Month 00: 9", [0x24, 0x00, 0x01, 0, 0, 0]),
         ("Month 13: 9", [0x24, 0x13, 0x01, 0, 0, 0]),
@@ -517,10 +423,7 @@ fn requests(sample: &mut Sample) {
         ("Hour 24: 9", [0x24, 0x01, 0x01, 0x24, 0, 0]),
         ("Minute 60: 9", [0x24, 0x01, 0x01, 0, 0x60, 0]),
         ("Second 60: 9", [0x24, 0x01, 0x01, 0, 0, 0x60]),
-        (
-            "Month 0A is no BCD, though it would be 10: 9",
-            [0x24, 0x0A, 0x01, 0, 0, 0],
-        ),
+        ("Month 0A is no BCD, though it would be 10: 9", [0x24, 0x0A, 0x01, 0, 0, 0]),
         ("Second 1F: 9", [0x24, 0x01, 0x01, 0, 0, 0x1F]),
         ("Year A0: 9", [0xA0, 0x01, 0x01, 0, 0, 0]),
         ("All FF: 9", [0xFF; 6]),
@@ -531,37 +434,21 @@ fn requests(sample: &mut Sample) {
 
 fn writes(sample: &mut Sample) {
     sample.show("002: the requests, written", "tz write 6 ask 12");
-    for line in [
-        "tz write 6 ask 11",
-        "tz write 8192 ask 14",
-        "tz write 7 ask 15",
-        "tz write 12 set_time 17 5 12 10 30 50",
-    ] {
+    for line in
+        ["tz write 6 ask 11", "tz write 8192 ask 14", "tz write 7 ask 15", "tz write 12 set_time 17 5 12 10 30 50"]
+    {
         sample.more(line);
     }
     sample.show("One byte of room too little: 11", "tz write 5 ask 12");
     sample.more("tz write 11 set_time 17 5 12 10 30 50");
     sample.more("tz write 0 ask 15");
-    sample.show(
-        "Setting the time has no request without values: 8, before 11",
-        "tz write 6 ask 30",
-    );
+    sample.show("Setting the time has no request without values: 8, before 11", "tz write 6 ask 30");
     sample.more("tz write 0 ask 30");
-    sample.show(
-        "A function that is not listed: 7, before 11",
-        "tz write 6 ask 13",
-    );
-    for line in [
-        "tz write 0 ask 00",
-        "tz write 0 ask 22",
-        "tz write 8192 ask FF",
-    ] {
+    sample.show("A function that is not listed: 7, before 11", "tz write 6 ask 13");
+    for line in ["tz write 0 ask 00", "tz write 0 ask 22", "tz write 8192 ask FF"] {
         sample.more(line);
     }
-    sample.show(
-        "Times that are none: 9, before 11",
-        "tz write 12 set_time 23 2 29 0 0 0",
-    );
+    sample.show("Times that are none: 9, before 11", "tz write 12 set_time 23 2 29 0 0 0");
     for time in [
         "100 1 1 0 0 0",
         "24 0 1 0 0 0",
@@ -579,46 +466,30 @@ fn writes(sample: &mut Sample) {
         sample.more(format!("tz write 12 set_time {time}"));
         sample.more(format!("tz write 0 set_time {time}"));
     }
-    sample.show(
-        "The first and the last second, and leap days",
-        "tz write 12 set_time 0 1 1 0 0 0",
-    );
-    for time in [
-        "99 12 31 23 59 59",
-        "0 2 29 0 0 0",
-        "24 2 29 9 9 9",
-        "96 2 29 19 19 19",
-    ] {
+    sample
+        .show("The last day of every month, and the day after, which is refused", "tz write 12 set_time 24 1 31 0 0 0");
+    for (month, days) in [31, 28, 31, 30, 31, 30, 31, 31, 30, 31, 30, 31].iter().enumerate() {
+        for day in [*days, days + 1] {
+            sample.more(format!("tz write 12 set_time 23 {} {day} 0 0 0", month + 1));
+        }
+    }
+    sample.show("The first and the last second, and leap days", "tz write 12 set_time 0 1 1 0 0 0");
+    for time in ["99 12 31 23 59 59", "0 2 29 0 0 0", "24 2 29 9 9 9", "96 2 29 19 19 19"] {
         sample.more(format!("tz write 12 set_time {time}"));
     }
 }
 
 fn no_calls(sample: &mut Sample) {
     sample.show("No calls: unknown words", "tz show 11 -");
-    for line in [
-        "TZ read 11 -",
-        "tz find -",
-        "tz write 6 set 1 2",
-        "tz write x askk 11",
-    ] {
+    for line in ["TZ read 11 -", "tz find -", "tz write 6 set 1 2", "tz write x askk 11"] {
         sample.more(line);
     }
     sample.show("Too few words", "tz");
-    for line in [
-        "tz read 11",
-        "tz parse",
-        "tz write 6",
-        "tz write 6 ask",
-        "tz write 12 set_time 17 5 12 10 30",
-    ] {
+    for line in ["tz read 11", "tz parse", "tz write 6", "tz write 6 ask", "tz write 12 set_time 17 5 12 10 30"] {
         sample.more(line);
     }
     sample.show("Too many words", "tz read 11 - -");
-    for line in [
-        "tz parse - -",
-        "tz write 6 ask 11 12",
-        "tz write 12 set_time 17 5 12 10 30 50 0",
-    ] {
+    for line in ["tz parse - -", "tz write 6 ask 11 12", "tz write 12 set_time 17 5 12 10 30 50 0"] {
         sample.more(line);
     }
     sample.show("Parameters from left to right", "tz read 111 0");
@@ -667,11 +538,9 @@ mod tests {
         ]
         .map(String::from)
         .to_vec();
-        for (call, refusals) in [
-            ("read", &[1, 2, 4, 5, 6, 7, 8, 9][..]),
-            ("parse", &[1, 2, 4, 5, 6, 7, 8, 9]),
-            ("write", &[7, 8, 9, 11]),
-        ] {
+        for (call, refusals) in
+            [("read", &[1, 2, 4, 5, 6, 7, 8, 9][..]), ("parse", &[1, 2, 4, 5, 6, 7, 8, 9]), ("write", &[7, 8, 9, 11])]
+        {
             expected.extend(refusals.iter().map(|n| format!("tz {call}: refused {n}")));
         }
         let expected: Vec<&str> = expected.iter().map(String::as_str).collect();
