@@ -24,7 +24,7 @@ same-length : tie.Need-same-length
 same-length c = search needs
 
 returns : tie.Need-returns
-returns c = 
+returns c =
     let a = c .before .before .before .before .before .before .args in
     let q = ap (Write (a .register)) (toZ-ofZ w32 (a .value) (c .before .before .before .before .before .before .fits .value)) in
     let e = c .before .before .before .write-request .ensures in
