@@ -1,0 +1,99 @@
+-- The ways out of `frameOf`, each from the facts that the reader has there, and what a whole frame says of its bytes.
+-- Each way rewrites the ladder with its tests; the inversion goes down the ladder past each refusal. Assumes nothing.
+use mathlib.Core.Path.{_≡_, refl, sym, ap, _∙_}
+use mathlib.Core.Bool.{Bool, true, false, _&&_}
+use mathlib.Core.List.{List}
+use Prim.Native.Nat.{ℕ, _+_, _-_, _<_, _≤_}
+use native.Mathlib.Omega.{arith}
+use borrow.Author.Tests.{lt-ltb, le-ltb, eq-eqb, ne-eqb, ltb-false, eqb-true}
+use lib.Dec.{ltb, eqb}
+use lib.ListN.{length, getD, take}
+use Rattle.laws.specs.Choice.{pick}
+use Rattle.laws.proofs.Ladders.{past, into}
+use Rattle.refusals.specs.declared.Refusal.{Refusal}
+use Rattle.refusals.specs.Refused.{refusedWith, short, firstMark, lengths, checksum, address}
+use Rattle.checks.specs.Sums.{total, closes}
+use Rattle.frames_tongzhu.specs.declared.Frame.{Frame}
+use Rattle.frames_tongzhu.specs.declared.Frame.the-variants.{Whole, Refused}
+use Rattle.frames_tongzhu.specs.Reading.{checked, check, frameOf}
+
+-- what the reader hands to the sum is all bytes but the last
+pub part-checked : (s : List ℕ) → take (length s - 1 - 0) s ≡ checked s
+part-checked s = let e : length s - 1 - 0 ≡ length s - 1 = omega arith in rw e
+
+pub too-short : (s : List ℕ) → length s < 6 → Refused (refusedWith short) ≡ frameOf s
+unfolding frameOf
+too-short s h = simp (lt-ltb _ _ h)
+
+module _ (s : List ℕ) (long : 6 ≤ length s) where
+  pub wrong-mark : (getD s 0 0 ≡ 0x7F → ⊥) → Refused (refusedWith firstMark) ≡ frameOf s
+  unfolding frameOf
+  wrong-mark h = simp (le-ltb _ _ long, ne-eqb _ _ h)
+
+  module _ (mark : getD s 0 0 ≡ 0x7F) where
+    pub wrong-length : (length s ≡ getD s 3 0 → ⊥) → Refused (refusedWith lengths) ≡ frameOf s
+    unfolding frameOf
+    wrong-length h = simp (le-ltb _ _ long, eq-eqb _ _ mark, ne-eqb _ _ h)
+
+    module _ (declared : length s ≡ getD s 3 0) where
+      pub wrong-check : closes 256 (total (checked s)) (check s) ≡ false → Refused (refusedWith checksum) ≡ frameOf s
+      unfolding frameOf
+      wrong-check h = simp (le-ltb _ _ long, eq-eqb _ _ mark, eq-eqb _ _ declared, h)
+
+      module _ (closed : closes 256 (total (checked s)) (check s) ≡ true) where
+        pub wrong-address : (getD s 1 0 ≡ 0x10 → ⊥) → Refused (refusedWith address) ≡ frameOf s
+        unfolding frameOf
+        wrong-address h = simp (le-ltb _ _ long, eq-eqb _ _ mark, eq-eqb _ _ declared, closed, ne-eqb _ _ h)
+
+        module _ (home : getD s 1 0 ≡ 0x10) where
+          pub wrong-version : (getD s 2 0 ≡ 0x02 → ⊥) → Refused (refusedWith address) ≡ frameOf s
+          unfolding frameOf
+          wrong-version h =
+              simp (le-ltb _ _ long, eq-eqb _ _ mark, eq-eqb _ _ declared, closed, eq-eqb _ _ home, ne-eqb _ _ h)
+
+          pub whole : getD s 2 0 ≡ 0x02 → Whole (getD s 4 0) 5 (length s - 6) ≡ frameOf s
+          unfolding frameOf
+          whole h =
+              simp (le-ltb _ _ long, eq-eqb _ _ mark, eq-eqb _ _ declared, closed, eq-eqb _ _ home, eq-eqb _ _ h)
+
+-- ---- what a whole frame says of its bytes
+
+pub not-refused : (f st n : ℕ) (r : Refusal) → Whole f st n ≡ Refused r → ⊥
+not-refused f st n r h = let z : _≡_ {A = ℕ} 0 1 = cc in omega arith
+
+pub record Parts (s : List ℕ) (f st n : ℕ) : Type 0 where
+  pub mark : getD s 0 0 ≡ 0x7F
+  pub home : getD s 1 0 ≡ 0x10
+  pub version : getD s 2 0 ≡ 0x02
+  pub declared : length s ≡ getD s 3 0
+  pub function : f ≡ getD s 4 0
+  pub start : st ≡ 5
+  pub count : n + 6 ≡ length s
+  pub closed : closes 256 (total (checked s)) (check s) ≡ true
+
+both : (a b : Bool) → (a && b) ≡ true → (a ≡ true) × (b ≡ true)
+both true b h = (refl, h)
+both false b h = let z : _≡_ {A = ℕ} 0 1 = cc in absurd (omega arith)
+
+pub whole-parts : (s : List ℕ) (f st n : ℕ) → Whole f st n ≡ frameOf s → Parts s f st n
+unfolding frameOf
+whole-parts s f st n h =
+    let no = not-refused f st n in
+    let a = past (ltb (length s) 6) _ _ _ (no _) h in
+    let b = into (eqb (getD s 0 0) 0x7F) _ _ _ (no _) (a .1) in
+    let d = into (eqb (length s) (getD s 3 0)) _ _ _ (no _) (b .1) in
+    let e = into (closes 256 (total (checked s)) (check s)) _ _ _ (no _) (d .1) in
+    let w = into (eqb (getD s 1 0) 0x10 && eqb (getD s 2 0) 0x02) _ _ _ (no _) (e .1) in
+    let v = both (eqb (getD s 1 0) 0x10) (eqb (getD s 2 0) 0x02) (w .0) in
+    let long : 6 ≤ length s = ltb-false _ _ (a .0) in
+    let l : n ≡ length s - 6 = cc (w .1) in
+    record {
+      mark = eqb-true _ _ (b .0);
+      home = eqb-true _ _ (v .0);
+      version = eqb-true _ _ (v .1);
+      declared = eqb-true _ _ (d .0);
+      function = cc (w .1);
+      start = cc (w .1);
+      count = omega arith;
+      closed = e .0
+    }

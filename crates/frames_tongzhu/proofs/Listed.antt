@@ -1,0 +1,21 @@
+-- The ways out of `kindOf`: two neighbouring functions that read are a range, and what is none of the five is not listed.
+-- Assumes nothing.
+use mathlib.Core.Path.{_≡_, refl, sym, ap, _∙_}
+use mathlib.Core.Logic.{⊎-elim}
+use Prim.Native.Nat.{ℕ, suc, _+_, _<_, _≤_}
+use native.Mathlib.Nat.{eq-or-lt-of-le}
+use native.Mathlib.Omega.{arith}
+use borrow.Author.Tests.{ne-eqb}
+use Rattle.frames_tongzhu.specs.declared.Kind.{Kind}
+use Rattle.frames_tongzhu.specs.declared.Kind.the-variants.{Reads, Sets, Unlisted}
+use Rattle.frames_tongzhu.specs.Functions.{kindOf}
+
+pub two : (a f : ℕ) (k : Kind) → k ≡ kindOf a → k ≡ kindOf (a + 1) → a ≤ f → f < a + 2 → k ≡ kindOf f
+two a f k first second low high =
+    ⊎-elim (λ (e : a ≡ f). first ∙ ap kindOf e) (λ (l : a < f). let e : a + 1 ≡ f = omega arith in second ∙ ap kindOf e)
+    (eq-or-lt-of-le low)
+
+pub unlisted : (f : ℕ) → (f ≡ 0x11 → ⊥) → (f ≡ 0x12 → ⊥) → (f ≡ 0x14 → ⊥) → (f ≡ 0x15 → ⊥) → (f ≡ 0x30 → ⊥)
+    → Unlisted ≡ kindOf f
+unfolding kindOf
+unlisted f a b c d e = simp (ne-eqb _ _ a, ne-eqb _ _ b, ne-eqb _ _ c, ne-eqb _ _ d, ne-eqb _ _ e)
