@@ -9,7 +9,7 @@ use borrow.Author.Tests.{lt-ltb, le-ltb, eq-eqb, ne-eqb, ltb-false, eqb-true}
 use lib.Dec.{ltb, eqb}
 use lib.ListN.{length, getD, take}
 use Rattle.laws.specs.Choice.{pick}
-use Rattle.laws.proofs.Ladders.{past, into}
+use Rattle.laws.proofs.Ladders.{past, into, both}
 use Rattle.refusals.specs.declared.Refusal.{Refusal}
 use Rattle.refusals.specs.Refused.{refusedWith, short, firstMark, lengths, checksum, address}
 use Rattle.checks.specs.Sums.{total, closes}
@@ -70,10 +70,6 @@ pub record Parts (s : List ℕ) (f st n : ℕ) : Type 0 where
   pub start : st ≡ 5
   pub count : n + 6 ≡ length s
   pub closed : closes 256 (total (checked s)) (check s) ≡ true
-
-both : (a b : Bool) → (a && b) ≡ true → (a ≡ true) × (b ≡ true)
-both true b h = (refl, h)
-both false b h = let z : _≡_ {A = ℕ} 0 1 = cc in absurd (omega arith)
 
 pub whole-parts : (s : List ℕ) (f st n : ℕ) → Whole f st n ≡ frameOf s → Parts s f st n
 unfolding frameOf

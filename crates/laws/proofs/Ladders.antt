@@ -1,7 +1,9 @@
 -- Down a ladder of choices: an answer that is not the one given on one side of a test is the one given on the other, and the test is known.
--- Assumes nothing.
+-- And both halves of a test that holds. Assumes nothing.
 use mathlib.Core.Path.{_≡_, refl}
-use mathlib.Core.Bool.{Bool, true, false}
+use mathlib.Core.Bool.{Bool, true, false, _&&_}
+use Prim.Native.Nat.{ℕ}
+use native.Mathlib.Omega.{arith}
 use Rattle.laws.specs.Choice.{pick}
 
 module _ {A : Type 0} (b : Bool) (x y w : A) where
@@ -20,3 +22,7 @@ module _ {A : Type 0} (b : Bool) (x y w : A) where
       go : (t : Bool) → (w ≡ y → ⊥) → w ≡ pick t x y → (t ≡ true) × (w ≡ x)
       go true n h = (refl, h)
       go false n h = absurd (n h)
+
+pub both : (a b : Bool) → (a && b) ≡ true → (a ≡ true) × (b ≡ true)
+both true b h = (refl, h)
+both false b h = let z : _≡_ {A = ℕ} 0 1 = cc in absurd (omega arith)
