@@ -6,7 +6,8 @@ use mathlib.Core.List.{List, [], _∷_}
 use Prim.Native.Nat.{ℕ, _+_, _-_}
 use native.Mathlib.Omega.{arith}
 use borrow.Author.Tests.{eq-eqb, ne-eqb}
-use lib.ListN.{length, take, drop}
+use lib.IntN.{ℤ}
+use lib.ListN.{length, getD, take, drop}
 use types.Run.{OneOf}
 use denote.Enum.Declared.{tagOf}
 use Rattle.refusals.specs.declared.Refusal.{Refusal}
@@ -17,9 +18,12 @@ use Rattle.frames_tongzhu.specs.Functions.{kindOf}
 use Rattle.frames_tongzhu.proofs.Kind.{the-type}
 use Rattle.frames_tongzhu.specs.declared.Frame.the-variants.{Whole, Refused as NoFrame}
 use Rattle.frames_tongzhu.specs.Reading.{frameOf}
+use Rattle.monitor3_tongzhu.specs.declared.Status.{Status}
+use Rattle.monitor3_tongzhu.specs.Values.{numberAt, currentAt, temperatureAt, statusAt}
+use Rattle.records_tongzhu.specs.declared.Monitor2.{Monitor2}
 use Rattle.records_tongzhu.specs.declared.Answer.{Answer}
 use Rattle.records_tongzhu.specs.declared.Answer.the-variants as is
-use Rattle.records_tongzhu.specs.Replies.{alone, refusedAs, sized, doneOf, payloadOf, listedAnswer, byKind, answerTo, ofFrame, replyOf}
+use Rattle.records_tongzhu.specs.Replies.{alone, refusedAs, monitor2Of, sized, doneOf, payloadOf, listedAnswer, byKind, answerTo, ofFrame, replyOf}
 
 module _ (n : ℕ) (p : List ℕ) (a : Answer) where
   pub wrong-size : (length p ≡ n → ⊥) → is.Refused (refusedWith shape) ≡ sized n p a
@@ -29,6 +33,17 @@ module _ (n : ℕ) (p : List ℕ) (a : Answer) where
   pub right-size : length p ≡ n → a ≡ sized n p a
   unfolding sized
   right-size h = simp (eq-eqb _ _ h)
+
+-- a monitor 2 put together from its values
+pub monitor2-is : (p : List ℕ) {s : Status} {i h c : ℤ} {a b d e f g w : ℕ}
+    → s ≡ statusAt p 0 → i ≡ currentAt p 4 → a ≡ numberAt p 6 → b ≡ numberAt p 8 → d ≡ numberAt p 10
+    → h ≡ temperatureAt p 12 → c ≡ temperatureAt p 13 → e ≡ numberAt p 14 → f ≡ numberAt p 16 → g ≡ numberAt p 18 → w ≡ getD p 20 0
+    → _≡_ {A = Monitor2} (record {
+      status = s; current = i; highest = a; lowest = b; total = d; hottest = h; coldest = c;
+      cycles = e; remaining = f; capacity = g; switch = w
+    }) (monitor2Of p)
+unfolding monitor2Of
+monitor2-is p ps pi pa pb pd ph pc pe pf pg pw = rw (ps, pi, pa, pb, pd, ph, pc, pe, pf, pg, pw)
 
 pub neither : (b : ℕ) → (b ≡ 0x01 → ⊥) → (b ≡ 0x02 → ⊥) → is.Refused (refusedWith range) ≡ doneOf b
 unfolding doneOf

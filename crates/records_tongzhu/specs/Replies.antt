@@ -17,11 +17,11 @@ use Rattle.records_tongzhu.specs.declared.Monitor2.{Monitor2}
 use Rattle.records_tongzhu.specs.declared.Answer.{Answer}
 use Rattle.records_tongzhu.specs.declared.Answer.the-variants as is
 use Rattle.records_tongzhu.specs.declared.Reply.{Reply}
-use Rattle.records_tongzhu.specs.declared.Fields.{Fields}
-use Rattle.records_tongzhu.specs.declared.Found.{Found}
-use Rattle.records_tongzhu.specs.declared.Found.the-variants.{Read, Refused}
-use Rattle.records_tongzhu.specs.Values.{numberAt, currentAt, temperatureAt, statusAt}
-use Rattle.records_tongzhu.specs.Layout.{noLists, fieldsAt}
+use Rattle.monitor3_tongzhu.specs.declared.Fields.{Fields}
+use Rattle.monitor3_tongzhu.specs.declared.Found.{Found}
+use Rattle.monitor3_tongzhu.specs.declared.Found.the-variants.{Read, Refused}
+use Rattle.monitor3_tongzhu.specs.Values.{numberAt, currentAt, temperatureAt, statusAt}
+use Rattle.monitor3_tongzhu.specs.Layout.{noLists, fieldsAt}
 
 -- an answer that has no lists
 abbrev pub alone : Answer → Reply

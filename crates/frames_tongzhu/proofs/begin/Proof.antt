@@ -4,54 +4,40 @@ use Rattle.frames_tongzhu.proofs.Writers.{begun-is, begin-nothing, no-r
 use borrow.Author.Needs.{needs}
 use Rattle.frames_tongzhu.proofs.begin.Statement.{statement}
 use Rattle.frames_tongzhu.proofs.begin.Tie as tie
-use Rattle.frames_tongzhu.proofs.begin.Reads as reads
-use Rattle.frames_tongzhu.proofs.begin.Lts as lts
 
--- src/lib.rt:80:12
 add-if2 : tie.Need-add-if2
 add-if2 c = search needs
 
--- src/lib.rt:81:13
 slice-write-out : tie.Need-slice-write-out
 slice-write-out c = search needs
 
--- src/lib.rt:82:13
 slice-write-out-2 : tie.Need-slice-write-out-2
 slice-write-out-2 c = simp length-set (omega arith)
 
--- src/lib.rt:83:13
 slice-write-out-3 : tie.Need-slice-write-out-3
 slice-write-out-3 c = simp length-set (omega arith)
 
--- src/lib.rt:84:23
 add-out : tie.Need-add-out
 add-out c = search needs
 
--- src/lib.rt:84:22
 cast-out : tie.Need-cast-out
 cast-out c = search needs
 
--- src/lib.rt:84:13
 slice-write-out-4 : tie.Need-slice-write-out-4
 slice-write-out-4 c = simp length-set (omega arith)
 
--- src/lib.rt:85:13
 slice-write-out-5 : tie.Need-slice-write-out-5
 slice-write-out-5 c = simp length-set (omega arith)
 
--- src/lib.rt:76:1
 same-length : tie.Need-same-length
 same-length c = search needs
 
--- src/lib.rt:76:1
 returns : tie.Need-returns
 returns c = let a = c .before .before .args in begun-is (a .len) (a .out .now) (omega arith) (omega arith) (a .function)
 
--- src/lib.rt:76:1
 returns-2 : tie.Need-returns-2
 returns-2 c = let a = c .before .before .args in begin-nothing (a .len) (a .out .now) (a .function) (no-room (a .len) (a .out .now) (omega arith) (omega arith))
 
--- src/lib.rt:76:1
 returns-3 : tie.Need-returns-3
 returns-3 c = let a = c .before .args in begin-nothing (a .len) (a .out .now) (a .function) (too-long (a .len) (a .out .now) (omega arith))
 

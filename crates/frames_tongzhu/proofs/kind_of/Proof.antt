@@ -5,33 +5,25 @@ use Rattle.frames_tongzhu.specs.Functions.{kindOf}
 use Rattle.frames_tongzhu.proofs.Listed.{two, unlisted}
 use Rattle.frames_tongzhu.proofs.kind_of.Statement.{statement}
 use Rattle.frames_tongzhu.proofs.kind_of.Tie as tie
-use Rattle.frames_tongzhu.proofs.kind_of.Reads as reads
-use Rattle.frames_tongzhu.proofs.kind_of.Lts as lts
 
--- src/lib.rt:23:1
 returns : tie.Need-returns
 unfolding kindOf
 returns c = sym (ap kindOf (c .match .keys1))
 
--- src/lib.rt:23:1
 returns-2 : tie.Need-returns-2
 unfolding kindOf
 returns-2 c = two 17 (c .before .before .before .args .function) Reads refl refl (omega arith) (omega arith)
 
--- src/lib.rt:23:1
 returns-3 : tie.Need-returns-3
 unfolding kindOf
 returns-3 c = two 20 (c .before .before .before .before .before .args .function) Reads refl refl (omega arith) (omega arith)
 
--- src/lib.rt:23:1
 returns-4 : tie.Need-returns-4
 returns-4 c = unlisted (c .before .before .args .function) (λ e. omega arith) (λ e. omega arith) (λ e. omega arith) (λ e. omega arith) (c .before .match .rest .1)
 
--- src/lib.rt:23:1
 returns-5 : tie.Need-returns-5
 returns-5 c = unlisted (c .before .before .before .before .args .function) (λ e. omega arith) (λ e. omega arith) (λ e. omega arith) (λ e. omega arith) (c .before .before .before .match .rest .1)
 
--- src/lib.rt:23:1
 returns-6 : tie.Need-returns-6
 returns-6 c = unlisted (c .before .before .before .before .before .args .function) (λ e. omega arith) (λ e. omega arith) (λ e. omega arith) (λ e. omega arith) (c .before .before .before .before .match .rest .1)
 

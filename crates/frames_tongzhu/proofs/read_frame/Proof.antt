@@ -11,11 +11,6 @@ use Rattle.frames_tongzhu.proofs.Ladder.{part-checked, too-short, wrong
 use borrow.Author.Needs.{needs}
 use Rattle.frames_tongzhu.proofs.read_frame.Statement.{statement}
 use Rattle.frames_tongzhu.proofs.read_frame.Tie as tie
-use Rattle.frames_tongzhu.proofs.read_frame.Reads as reads
-use Rattle.frames_tongzhu.proofs.read_frame.Lts as lts
-use Rattle.checks.proofs.closes256.Reads as closes256-reads
-use Rattle.frames_tongzhu.proofs.wide.Reads as wide-reads
-use Rattle.refusals.proofs.refuse.Reads as refuse-reads
 
 -- the bytes, as they stand where their sum is known
 abbrev place : tie.After-closes256 → List ℕ
@@ -27,115 +22,89 @@ declared c = omega arith
 sums : (c : tie.After-closes256) → c .closes256 .result ≡ closes 256 (total (checked (place c))) (check (place c))
 sums c = c .closes256 .ensures ∙ ap (λ (l : List ℕ). closes 256 (total l) (check (place c))) (part-checked (place c))
 
--- src/lib.rt:49:31
 refuse-requires : tie.Need-refuse-requires
 refuse-requires c κs = search needs
 
--- src/lib.rt:49:9
 returns : tie.Need-returns
 returns c = ap Refused (c .refuse .ensures) ∙ too-short _ (search needs)
 
--- src/lib.rt:51:8
 shared-slice-read-if2 : tie.Need-shared-slice-read-if2
 shared-slice-read-if2 c = search needs
 
--- src/lib.rt:52:31
 refuse-requires-2 : tie.Need-refuse-requires-2
 refuse-requires-2 c κs = search needs
 
--- src/lib.rt:52:9
 returns-2 : tie.Need-returns-2
 returns-2 c = ap Refused (c .refuse2 .ensures) ∙ wrong-mark _ (search needs) (search needs)
 
--- src/lib.rt:54:25
 shared-slice-read-wide : tie.Need-shared-slice-read-wide
 shared-slice-read-wide c = search needs
 
--- src/lib.rt:54:9
 wide-requires : tie.Need-wide-requires
 wide-requires c κs = search needs
 
--- src/lib.rt:56:31
 refuse-requires-3 : tie.Need-refuse-requires-3
 refuse-requires-3 c κs = search needs
 
--- src/lib.rt:56:9
 returns-3 : tie.Need-returns-3
 returns-3 c = let e = c .before .before .wide .ensures in ap Refused (c .refuse3 .ensures) ∙ wrong-length _ (search needs) (search needs) (λ h. c .before .if3 .taken (h ∙ sym e))
 
--- src/lib.rt:58:16
 sub-last : tie.Need-sub-last
 sub-last c = search needs
 
--- src/lib.rt:59:19
 sub-closes256 : tie.Need-sub-closes256
 sub-closes256 c = search needs
 
--- src/lib.rt:59:19
 part-closes256-start : tie.Need-part-closes256-start
 part-closes256-start c = search needs
 
--- src/lib.rt:59:19
 part-closes256-end : tie.Need-part-closes256-end
 part-closes256-end c = search needs
 
--- src/lib.rt:59:32
 shared-slice-read-closes256 : tie.Need-shared-slice-read-closes256
 shared-slice-read-closes256 c = search needs
 
--- src/lib.rt:59:9
 closes256-requires : tie.Need-closes256-requires
 closes256-requires c κs = search needs
 
--- src/lib.rt:60:31
 refuse-requires-4 : tie.Need-refuse-requires-4
 refuse-requires-4 c κs = search needs
 
--- src/lib.rt:60:9
 returns-4 : tie.Need-returns-4
 returns-4 c =
     let closed = c .before .before in
     ap Refused (c .refuse4 .ensures) ∙ wrong-check _ (search needs) (search needs) (declared closed) (sym (sums closed) ∙ not-true _ (c .before .if4 .taken))
 
--- src/lib.rt:62:8
 shared-slice-read-if5 : tie.Need-shared-slice-read-if5
 shared-slice-read-if5 c = search needs
 
--- src/lib.rt:63:31
 refuse-requires-5 : tie.Need-refuse-requires-5
 refuse-requires-5 c κs = search needs
 
--- src/lib.rt:63:9
 returns-5 : tie.Need-returns-5
 returns-5 c =
     let closed = c .before .before .before .before in
     ap Refused (c .refuse5 .ensures)
     ∙ wrong-address _ (search needs) (search needs) (declared closed) (sym (sums closed) ∙ not-false _ (c .before .before .before .if4 .left)) (search needs)
 
--- src/lib.rt:65:8
 shared-slice-read-if6 : tie.Need-shared-slice-read-if6
 shared-slice-read-if6 c = search needs
 
--- src/lib.rt:66:31
 refuse-requires-6 : tie.Need-refuse-requires-6
 refuse-requires-6 c κs = search needs
 
--- src/lib.rt:66:9
 returns-6 : tie.Need-returns-6
 returns-6 c =
     let closed = c .before .before .before .before .before .before in
     ap Refused (c .refuse6 .ensures)
     ∙ wrong-version _ (search needs) (search needs) (declared closed) (sym (sums closed) ∙ not-false _ (c .before .before .before .before .before .if4 .left)) (search needs) (search needs)
 
--- src/lib.rt:69:19
 shared-slice-read-t8 : tie.Need-shared-slice-read-t8
 shared-slice-read-t8 c = search needs
 
--- src/lib.rt:71:14
 sub-t4 : tie.Need-sub-t4
 sub-t4 c = search needs
 
--- src/lib.rt:45:1
 returns-7 : tie.Need-returns-7
 returns-7 c =
     let closed = c .before .before .before .before .before .before in

@@ -3,87 +3,60 @@ use Rattle.records_tongzhu.specs.Replies.{payloadOf}
 use borrow.Author.Needs.{needs}
 use Rattle.records_tongzhu.proofs.payload_of.Statement.{statement}
 use Rattle.records_tongzhu.proofs.payload_of.Tie as tie
-use Rattle.records_tongzhu.proofs.payload_of.Reads as reads
-use Rattle.records_tongzhu.proofs.payload_of.Lts as lts
-use Rattle.records_tongzhu.proofs.read_current.Reads as read-current-reads
-use Rattle.records_tongzhu.proofs.read_done.Reads as read-done-reads
-use Rattle.records_tongzhu.proofs.read_fields.Reads as read-fields-reads
-use Rattle.records_tongzhu.proofs.read_monitor2.Reads as read-monitor2-reads
-use Rattle.records_tongzhu.proofs.read_status.Reads as read-status-reads
-use Rattle.records_tongzhu.proofs.refused.Reads as refused-reads
-use Rattle.records_tongzhu.proofs.with_lists.Reads as with-lists-reads
-use Rattle.records_tongzhu.proofs.with_no_lists.Reads as with-no-lists-reads
 
--- src/lib.rt:135:31
 read-monitor2-requires : tie.Need-read-monitor2-requires
 read-monitor2-requires c κs = search needs
 
--- src/lib.rt:135:17
 with-no-lists-requires : tie.Need-with-no-lists-requires
 with-no-lists-requires c κs = search needs
 
--- src/lib.rt:136:28
 read-fields-requires : tie.Need-read-fields-requires
 read-fields-requires c κs = search needs
 
--- src/lib.rt:136:17
 with-lists-requires : tie.Need-with-lists-requires
 with-lists-requires c κs = search needs
 
--- src/lib.rt:137:31
 read-status-requires : tie.Need-read-status-requires
 read-status-requires c κs = search needs
 
--- src/lib.rt:137:17
 with-no-lists-requires-2 : tie.Need-with-no-lists-requires-2
 with-no-lists-requires-2 c κs = search needs
 
--- src/lib.rt:138:31
 read-current-requires : tie.Need-read-current-requires
 read-current-requires c κs = search needs
 
--- src/lib.rt:138:17
 with-no-lists-requires-3 : tie.Need-with-no-lists-requires-3
 with-no-lists-requires-3 c κs = search needs
 
--- src/lib.rt:139:31
 read-done-requires : tie.Need-read-done-requires
 read-done-requires c κs = search needs
 
--- src/lib.rt:139:17
 with-no-lists-requires-4 : tie.Need-with-no-lists-requires-4
 with-no-lists-requires-4 c κs = search needs
 
--- src/lib.rt:140:14
 refused-requires : tie.Need-refused-requires
 refused-requires c κs = search needs
 
--- src/lib.rt:131:1
 returns : tie.Need-returns
 unfolding payloadOf
 returns c = rw (c .before .before .match .keys1, c .with-no-lists .ensures, c .before .read-monitor2 .ensures)
 
--- src/lib.rt:131:1
 returns-2 : tie.Need-returns-2
 unfolding payloadOf
 returns-2 c = rw (c .before .before .match .keys2, c .with-lists .ensures, c .before .read-fields .ensures)
 
--- src/lib.rt:131:1
 returns-3 : tie.Need-returns-3
 unfolding payloadOf
 returns-3 c = rw (c .before .before .match .keys3, c .with-no-lists2 .ensures, c .before .read-status .ensures)
 
--- src/lib.rt:131:1
 returns-4 : tie.Need-returns-4
 unfolding payloadOf
 returns-4 c = rw (c .before .before .match .keys4, c .with-no-lists3 .ensures, c .before .read-current .ensures)
 
--- src/lib.rt:131:1
 returns-5 : tie.Need-returns-5
 unfolding payloadOf
 returns-5 c = rw (c .before .before .match .keys5, c .with-no-lists4 .ensures, c .before .read-done .ensures)
 
--- src/lib.rt:131:1
 returns-6 : tie.Need-returns-6
 unfolding payloadOf
 returns-6 c = let n = c .before .match .rest in simp (ne-eqb _ _ (n .0 .0 .0 .0 .1), ne-eqb _ _ (n .0 .0 .0 .1), ne-eqb _ _ (n .0 .0 .1), ne-eqb _ _ (n .0 .1), ne-eqb _ _ (n .1), c .refused .ensures)

@@ -5,37 +5,27 @@ use Rattle.records_tongzhu.specs.declared.Answer.the-variants as is
 use borrow.Author.Needs.{needs}
 use Rattle.records_tongzhu.proofs.read_done.Statement.{statement}
 use Rattle.records_tongzhu.proofs.read_done.Tie as tie
-use Rattle.records_tongzhu.proofs.read_done.Reads as reads
-use Rattle.records_tongzhu.proofs.read_done.Lts as lts
-use Rattle.refusals.proofs.refuse.Reads as refuse-reads
 
--- src/lib.rt:232:32
 refuse-requires : tie.Need-refuse-requires
 refuse-requires c κs = search needs
 
--- src/lib.rt:232:9
 returns : tie.Need-returns
 returns c = ap is.Refused (c .refuse .ensures) ∙ wrong-size _ _ _ (c .before .if1 .taken)
 
--- src/lib.rt:234:11
 shared-slice-read-match : tie.Need-shared-slice-read-match
 shared-slice-read-match c = search needs
 
--- src/lib.rt:237:30
 refuse-requires-2 : tie.Need-refuse-requires-2
 refuse-requires-2 c κs = search needs
 
--- src/lib.rt:228:1
 returns-2 : tie.Need-returns-2
 unfolding doneOf
 returns-2 c = ap doneOf (sym (c .match .keys1)) ∙ right-size _ _ _ (c .before .before .if1 .left)
 
--- src/lib.rt:228:1
 returns-3 : tie.Need-returns-3
 unfolding doneOf
 returns-3 c = ap doneOf (sym (c .match .keys2)) ∙ right-size _ _ _ (c .before .before .if1 .left)
 
--- src/lib.rt:228:1
 returns-4 : tie.Need-returns-4
 returns-4 c =
     let n = c .before .match .rest in

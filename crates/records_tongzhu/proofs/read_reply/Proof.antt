@@ -8,11 +8,6 @@ use mathlib.Core.Path.{_≡_, sym, _∙_}
 use borrow.Author.Needs.{needs}
 use Rattle.records_tongzhu.proofs.read_reply.Statement.{statement}
 use Rattle.records_tongzhu.proofs.read_reply.Tie as tie
-use Rattle.records_tongzhu.proofs.read_reply.Reads as reads
-use Rattle.records_tongzhu.proofs.read_reply.Lts as lts
-use Rattle.frames_tongzhu.proofs.read_frame.Reads as read-frame-reads
-use Rattle.records_tongzhu.proofs.answer_to.Reads as answer-to-reads
-use Rattle.records_tongzhu.proofs.with_no_lists.Reads as with-no-lists-reads
 
 -- the frame's fields, and that the bytes are that frame
 abbrev Fields : tie.After-known-told2 → ℕ × (ℕ × (ℕ × Unit {0}))
@@ -24,43 +19,33 @@ is-frame c = sym (c .before .f2 .given .1) ∙ c .before .before .before .read-f
 read-frame-requires : tie.Need-read-frame-requires
 read-frame-requires c κs = search needs
 
--- src/lib.rt:101:24
 enum-known-f : tie.Need-enum-known-f
 enum-known-f c = search needs
 
--- src/lib.rt:101:30
 with-no-lists-requires : tie.Need-with-no-lists-requires
 with-no-lists-requires c κs = search needs
 
--- src/lib.rt:103:13
 enum-known-f-2 : tie.Need-enum-known-f-2
 enum-known-f-2 c = search needs
 
--- src/lib.rt:106:51
 add-answer-to : tie.Need-add-answer-to
 add-answer-to c = let d = whole-parts _ _ _ _ (is-frame c) in omega arith
 
--- src/lib.rt:106:41
 sub-answer-to : tie.Need-sub-answer-to
 sub-answer-to c = search needs
 
--- src/lib.rt:106:41
 part-answer-to-start : tie.Need-part-answer-to-start
 part-answer-to-start c = search needs
 
--- src/lib.rt:106:41
 part-answer-to-end : tie.Need-part-answer-to-end
 part-answer-to-end c = let d = whole-parts _ _ _ _ (is-frame c) in omega arith
 
--- src/lib.rt:106:14
 answer-to-requires : tie.Need-answer-to-requires
 answer-to-requires c κs = search needs
 
--- src/lib.rt:96:1
 returns : tie.Need-returns
 returns c = c .with-no-lists .ensures ∙ no-frame _ _ _ (sym (c .before .before .f .given .1) ∙ c .before .before .before .before .read-frame .ensures)
 
--- src/lib.rt:96:1
 returns-2 : tie.Need-returns-2
 returns-2 c = c .answer-to .ensures ∙ whole-frame _ _ _ _ _ (is-frame (c .before .before))
 

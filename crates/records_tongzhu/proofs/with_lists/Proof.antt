@@ -1,22 +1,16 @@
 use borrow.Author.Needs.{needs}
 use Rattle.records_tongzhu.proofs.with_lists.Statement.{statement}
 use Rattle.records_tongzhu.proofs.with_lists.Tie as tie
-use Rattle.records_tongzhu.proofs.with_lists.Reads as reads
-use Rattle.records_tongzhu.proofs.with_lists.Lts as lts
 
--- src/lib.rt:157:21
 enum-known-found : tie.Need-enum-known-found
 enum-known-found c = search needs
 
--- src/lib.rt:161:24
 enum-known-found-2 : tie.Need-enum-known-found-2
 enum-known-found-2 c = search needs
 
--- src/lib.rt:151:1
 returns : tie.Need-returns
 returns c = rw (c .before .found .given .1)
 
--- src/lib.rt:151:1
 returns-2 : tie.Need-returns-2
 returns-2 c = rw (c .before .found2 .given .1)
 

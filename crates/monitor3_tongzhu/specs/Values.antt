@@ -7,7 +7,7 @@ use lib.ListN.{getD, replicate}
 use Rattle.numbers.specs.declared.Order.the-variants.{LowFirst}
 use Rattle.numbers.specs.Bytes.{numberOf}
 use Rattle.numbers.specs.Signed.{signedOf}
-use Rattle.records_tongzhu.specs.declared.Status.{Status}
+use Rattle.monitor3_tongzhu.specs.declared.Status.{Status}
 
 -- a number of two bytes
 abbrev pub numberAt : List ℕ → ℕ → ℕ

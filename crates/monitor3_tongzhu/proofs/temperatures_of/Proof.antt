@@ -6,13 +6,10 @@ use lib.ListN.{getD}
 use lib.IntN.{pos}
 use native.Mathlib.Omega.{arith}
 use borrow.Author.Needs.{needs}
-use Rattle.records_tongzhu.specs.Values.{numberAt, temperatureAt, firsts, placesOf}
-use Rattle.records_tongzhu.proofs.Places.{none-placed, one-placed}
-use Rattle.records_tongzhu.proofs.temperatures_of.Statement.{statement}
-use Rattle.records_tongzhu.proofs.temperatures_of.Tie as tie
-use Rattle.records_tongzhu.proofs.temperatures_of.Reads as reads
-use Rattle.records_tongzhu.proofs.temperatures_of.Lts as lts
-use Rattle.numbers.proofs.signed8.Reads as signed8-reads
+use Rattle.monitor3_tongzhu.specs.Values.{numberAt, temperatureAt, firsts, placesOf}
+use Rattle.monitor3_tongzhu.proofs.Places.{none-placed, one-placed}
+use Rattle.monitor3_tongzhu.proofs.temperatures_of.Statement.{statement}
+use Rattle.monitor3_tongzhu.proofs.temperatures_of.Tie as tie
 
 abbrev Inv-loop : tie.InvT-loop
 Inv-loop q from n a₀ i₀ a i = (i ≤ n) × (a ≡ placesOf 16 (pos 0) (λ (k : ℕ). temperatureAt q (from + k)) i)
@@ -20,36 +17,28 @@ Inv-loop q from n a₀ i₀ a i = (i ≤ n) × (a ≡ placesOf 16 (pos 0) (λ (k
 abbrev μ-loop : tie.MeasureT-loop
 μ-loop q from n a₀ i₀ a i = n - i
 
--- src/lib.rt:407:5
 loop-holds : tie.Need-loop-holds Inv-loop μ-loop
 unfolding firsts
 loop-holds c = search needs
 
--- src/lib.rt:408:26
 add-signed8 : tie.Need-add-signed8 Inv-loop μ-loop
 add-signed8 c = search needs
 
--- src/lib.rt:408:24
 shared-slice-read-signed8 : tie.Need-shared-slice-read-signed8 Inv-loop μ-loop
 shared-slice-read-signed8 c = search needs
 
--- src/lib.rt:408:16
 signed8-requires : tie.Need-signed8-requires Inv-loop μ-loop
 signed8-requires c κs = search needs
 
--- src/lib.rt:408:9
 array-set-from-a : tie.Need-array-set-from-a Inv-loop μ-loop
 array-set-from-a c = search needs
 
--- src/lib.rt:409:9
 add-i : tie.Need-add-i Inv-loop μ-loop
 add-i c = search needs
 
--- src/lib.rt:407:5
 loop-less : tie.Need-loop-less Inv-loop μ-loop
 loop-less c = search needs
 
--- src/lib.rt:407:5
 loop-again : tie.Need-loop-again Inv-loop μ-loop
 loop-again c =
     let a = c .before .before .before .before .before .args in
@@ -57,7 +46,6 @@ loop-again c =
     let e : toZ w8 (ofZ w8 (c .signed8 .result)) ≡ c .signed8 .result = search needs in
     (search needs, one-placed (λ (k : ℕ). temperatureAt (a .q .now) (a .from + k)) 16 (pos 0) (l .a) (l .i) _ (l .inv .1) (omega arith) (e ∙ c .signed8 .ensures))
 
--- src/lib.rt:401:1
 returns : tie.Need-returns Inv-loop μ-loop
 returns c =
     let a = c .before .before .before .args in

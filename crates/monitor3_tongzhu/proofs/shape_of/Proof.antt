@@ -1,13 +1,10 @@
 use Prim.Native.Nat.{ℕ}
 use mathlib.Core.List.{List}
 use native.Mathlib.Omega.{arith}
-use Rattle.records_tongzhu.proofs.Shapes.{no-cells, many-cells, many-sensors, many-mosfets, wrong-total, counted}
+use Rattle.monitor3_tongzhu.proofs.Shapes.{no-cells, many-cells, many-sensors, many-mosfets, wrong-total, counted}
 use borrow.Author.Needs.{needs}
-use Rattle.records_tongzhu.proofs.shape_of.Statement.{statement}
-use Rattle.records_tongzhu.proofs.shape_of.Tie as tie
-use Rattle.records_tongzhu.proofs.shape_of.Reads as reads
-use Rattle.records_tongzhu.proofs.shape_of.Lts as lts
-use Rattle.records_tongzhu.proofs.count_at.Reads as count-at-reads
+use Rattle.monitor3_tongzhu.proofs.shape_of.Statement.{statement}
+use Rattle.monitor3_tongzhu.proofs.shape_of.Tie as tie
 
 -- the bytes and the counts, where all three are known
 abbrev place : tie.After-count-at3 → List ℕ
@@ -25,87 +22,66 @@ mosfets k = k .count-at3 .result
 count-at-requires : tie.Need-count-at-requires
 count-at-requires c κs = search needs
 
--- src/lib.rt:308:18
 add-flags : tie.Need-add-flags
 add-flags c = search needs
 
--- src/lib.rt:309:35
 mul-count-at : tie.Need-mul-count-at
 mul-count-at c = search needs
 
--- src/lib.rt:309:31
 add-count-at : tie.Need-add-count-at
 add-count-at c = search needs
 
--- src/lib.rt:309:31
 add-count-at-2 : tie.Need-add-count-at-2
 add-count-at-2 c = search needs
 
--- src/lib.rt:309:9
 count-at-requires-2 : tie.Need-count-at-requires-2
 count-at-requires-2 c κs = search needs
 
--- src/lib.rt:310:35
 mul-count-at-2 : tie.Need-mul-count-at-2
 mul-count-at-2 c = search needs
 
--- src/lib.rt:310:31
 add-count-at-3 : tie.Need-add-count-at-3
 add-count-at-3 c = search needs
 
--- src/lib.rt:310:31
 add-count-at-4 : tie.Need-add-count-at-4
 add-count-at-4 c = search needs
 
--- src/lib.rt:310:31
 add-count-at-5 : tie.Need-add-count-at-5
 add-count-at-5 c = search needs
 
--- src/lib.rt:310:9
 count-at-requires-3 : tie.Need-count-at-requires-3
 count-at-requires-3 c κs = search needs
 
--- src/lib.rt:312:9
 returns : tie.Need-returns
 returns c = let k = c .before in no-cells (place k) (cells k) (sensors k) (mosfets k) (k .before .before .count-at .ensures .0) (k .before .count-at2 .ensures .0) (k .count-at3 .ensures .0) (omega arith)
 
--- src/lib.rt:315:9
 returns-2 : tie.Need-returns-2
 returns-2 c = let k = c .before .before in many-cells (place k) (cells k) (sensors k) (mosfets k) (k .before .before .count-at .ensures .0) (k .before .count-at2 .ensures .0) (k .count-at3 .ensures .0) (omega arith) (omega arith)
 
--- src/lib.rt:318:9
 returns-3 : tie.Need-returns-3
 returns-3 c = let k = c .before .before .before in many-sensors (place k) (cells k) (sensors k) (mosfets k) (k .before .before .count-at .ensures .0) (k .before .count-at2 .ensures .0) (k .count-at3 .ensures .0) (omega arith) (omega arith) (omega arith)
 
--- src/lib.rt:321:9
 returns-4 : tie.Need-returns-4
 returns-4 c = let k = c .before .before .before .before in many-mosfets (place k) (cells k) (sensors k) (mosfets k) (k .before .before .count-at .ensures .0) (k .before .count-at2 .ensures .0) (k .count-at3 .ensures .0) (omega arith) (omega arith) (omega arith) (omega arith)
 
--- src/lib.rt:323:24
 mul-if5 : tie.Need-mul-if5
 mul-if5 c = search needs
 
--- src/lib.rt:323:19
 add-if5 : tie.Need-add-if5
 add-if5 c = search needs
 
--- src/lib.rt:323:19
 add-if5-2 : tie.Need-add-if5-2
 add-if5-2 c = search needs
 
--- src/lib.rt:323:19
 add-if5-3 : tie.Need-add-if5-3
 add-if5-3 c = search needs
 
--- src/lib.rt:323:19
 add-if5-4 : tie.Need-add-if5-4
 add-if5-4 c = search needs
 
--- src/lib.rt:324:9
 returns-5 : tie.Need-returns-5
 returns-5 c = let k = c .before .before .before .before .before in wrong-total (place k) (cells k) (sensors k) (mosfets k) (k .before .before .count-at .ensures .0) (k .before .count-at2 .ensures .0) (k .count-at3 .ensures .0) (omega arith) (omega arith) (omega arith) (omega arith) (c .if5 .taken)
 
--- src/lib.rt:304:1
 returns-6 : tie.Need-returns-6
 returns-6 c = let k = c .before .before .before .before .before in counted (place k) (cells k) (sensors k) (mosfets k) (k .before .before .count-at .ensures .0) (k .before .count-at2 .ensures .0) (k .count-at3 .ensures .0) (omega arith) (omega arith) (omega arith) (omega arith) (c .if5 .left)
 

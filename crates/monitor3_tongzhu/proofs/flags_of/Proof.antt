@@ -4,12 +4,10 @@ use lib.ListN.{getD}
 use lib.IntN.{pos}
 use native.Mathlib.Omega.{arith}
 use borrow.Author.Needs.{needs}
-use Rattle.records_tongzhu.specs.Values.{numberAt, temperatureAt, firsts, placesOf}
-use Rattle.records_tongzhu.proofs.Places.{none-placed, one-placed}
-use Rattle.records_tongzhu.proofs.flags_of.Statement.{statement}
-use Rattle.records_tongzhu.proofs.flags_of.Tie as tie
-use Rattle.records_tongzhu.proofs.flags_of.Reads as reads
-use Rattle.records_tongzhu.proofs.flags_of.Lts as lts
+use Rattle.monitor3_tongzhu.specs.Values.{numberAt, temperatureAt, firsts, placesOf}
+use Rattle.monitor3_tongzhu.proofs.Places.{none-placed, one-placed}
+use Rattle.monitor3_tongzhu.proofs.flags_of.Statement.{statement}
+use Rattle.monitor3_tongzhu.proofs.flags_of.Tie as tie
 
 abbrev Inv-loop : tie.InvT-loop
 Inv-loop q from n a₀ i₀ a i = (i ≤ n) × (a ≡ placesOf 4 0 (λ (k : ℕ). getD q (from + k) 0) i)
@@ -17,39 +15,31 @@ Inv-loop q from n a₀ i₀ a i = (i ≤ n) × (a ≡ placesOf 4 0 (λ (k : ℕ)
 abbrev μ-loop : tie.MeasureT-loop
 μ-loop q from n a₀ i₀ a i = n - i
 
--- src/lib.rt:393:5
 loop-holds : tie.Need-loop-holds Inv-loop μ-loop
 unfolding firsts
 loop-holds c = search needs
 
--- src/lib.rt:394:18
 add-a : tie.Need-add-a Inv-loop μ-loop
 add-a c = search needs
 
--- src/lib.rt:394:16
 shared-slice-read-a : tie.Need-shared-slice-read-a Inv-loop μ-loop
 shared-slice-read-a c = search needs
 
--- src/lib.rt:394:9
 array-write-a : tie.Need-array-write-a Inv-loop μ-loop
 array-write-a c = search needs
 
--- src/lib.rt:395:9
 add-i : tie.Need-add-i Inv-loop μ-loop
 add-i c = search needs
 
--- src/lib.rt:393:5
 loop-less : tie.Need-loop-less Inv-loop μ-loop
 loop-less c = search needs
 
--- src/lib.rt:393:5
 loop-again : tie.Need-loop-again Inv-loop μ-loop
 loop-again c =
     let a = c .before .before .before .args in
     let l = c .before .before .loop in
     (search needs, one-placed (λ (k : ℕ). getD (a .q .now) (a .from + k) 0) 4 0 (l .a) (l .i) _ (l .inv .1) (omega arith) refl)
 
--- src/lib.rt:387:1
 returns : tie.Need-returns Inv-loop μ-loop
 returns c =
     let a = c .before .before .args in

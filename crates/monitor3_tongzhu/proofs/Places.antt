@@ -7,7 +7,7 @@ use native.Mathlib.Numerals.{add-one}
 use native.Mathlib.Omega.{arith}
 use lib.ListN.{length, set, replicate, length-append}
 use lib.Seq.{set-at}
-use Rattle.records_tongzhu.specs.Values.{firsts, placesOf}
+use Rattle.monitor3_tongzhu.specs.Values.{firsts, placesOf}
 
 module _ {A : Type 0} (f : ℕ → A) where
   length-firsts : (n : ℕ) → length (firsts f n) ≡ n

@@ -2,24 +2,18 @@ use mathlib.Core.Path.{refl, sym}
 use lib.ListN.{List·getD-eq-default}
 use native.Mathlib.Omega.{arith}
 use borrow.Author.Needs.{needs}
-use Rattle.records_tongzhu.proofs.count_at.Statement.{statement}
-use Rattle.records_tongzhu.proofs.count_at.Tie as tie
-use Rattle.records_tongzhu.proofs.count_at.Reads as reads
-use Rattle.records_tongzhu.proofs.count_at.Lts as lts
+use Rattle.monitor3_tongzhu.proofs.count_at.Statement.{statement}
+use Rattle.monitor3_tongzhu.proofs.count_at.Tie as tie
 
--- src/lib.rt:440:16
 shared-slice-read-result : tie.Need-shared-slice-read-result
 shared-slice-read-result c = search needs
 
--- src/lib.rt:440:16
 cast-result : tie.Need-cast-result
 cast-result c = omega (arith, c .shared-slice-known .given (c .before .before .args .i))
 
--- src/lib.rt:440:9
 returns : tie.Need-returns
 returns c = (refl, omega (arith, c .shared-slice-known .given (c .before .before .args .i)))
 
--- src/lib.rt:436:1
 returns-2 : tie.Need-returns-2
 returns-2 c = let a = c .before .args in (sym (List·getD-eq-default (a .q .now) 0 (c .if1 .left)), omega arith)
 

@@ -9,14 +9,14 @@ use lib.ListN.{length, getD, drop, replicate}
 use lib.Dec.{leb, eqb}
 use Rattle.laws.specs.Choice.{pick}
 use Rattle.refusals.specs.Refused.{refusedWith, shape}
-use Rattle.records_tongzhu.specs.declared.Shape.{Shape}
-use Rattle.records_tongzhu.specs.declared.Shape.the-variants.{Counted, Wrong}
-use Rattle.records_tongzhu.specs.declared.Counts.{Counts}
-use Rattle.records_tongzhu.specs.declared.Monitor3.{Monitor3}
-use Rattle.records_tongzhu.specs.declared.Lists.{Lists}
-use Rattle.records_tongzhu.specs.declared.Fields.{Fields}
-use Rattle.records_tongzhu.specs.declared.Found.the-variants.{Read, Refused}
-use Rattle.records_tongzhu.specs.Values.{numberAt, currentAt, temperatureAt, statusAt, placesOf}
+use Rattle.monitor3_tongzhu.specs.declared.Shape.{Shape}
+use Rattle.monitor3_tongzhu.specs.declared.Shape.the-variants.{Counted, Wrong}
+use Rattle.monitor3_tongzhu.specs.declared.Counts.{Counts}
+use Rattle.monitor3_tongzhu.specs.declared.Monitor3.{Monitor3}
+use Rattle.monitor3_tongzhu.specs.declared.Lists.{Lists}
+use Rattle.monitor3_tongzhu.specs.declared.Fields.{Fields}
+use Rattle.monitor3_tongzhu.specs.declared.Found.the-variants.{Read, Refused}
+use Rattle.monitor3_tongzhu.specs.Values.{numberAt, currentAt, temperatureAt, statusAt, placesOf}
 
 -- bytes of the balanced state: c / 8 rounded up (6.1.3.5)
 abbrev pub flagBytes : ℕ → ℕ

@@ -4,13 +4,10 @@ use lib.ListN.{getD}
 use lib.IntN.{pos}
 use native.Mathlib.Omega.{arith}
 use borrow.Author.Needs.{needs}
-use Rattle.records_tongzhu.specs.Values.{numberAt, temperatureAt, firsts, placesOf}
-use Rattle.records_tongzhu.proofs.Places.{none-placed, one-placed}
-use Rattle.records_tongzhu.proofs.cells_of.Statement.{statement}
-use Rattle.records_tongzhu.proofs.cells_of.Tie as tie
-use Rattle.records_tongzhu.proofs.cells_of.Reads as reads
-use Rattle.records_tongzhu.proofs.cells_of.Lts as lts
-use Rattle.records_tongzhu.proofs.number_at.Reads as number-at-reads
+use Rattle.monitor3_tongzhu.specs.Values.{numberAt, temperatureAt, firsts, placesOf}
+use Rattle.monitor3_tongzhu.proofs.Places.{none-placed, one-placed}
+use Rattle.monitor3_tongzhu.proofs.cells_of.Statement.{statement}
+use Rattle.monitor3_tongzhu.proofs.cells_of.Tie as tie
 
 abbrev Inv-loop : tie.InvT-loop
 Inv-loop q from n a₀ i₀ a i = (i ≤ n) × (a ≡ placesOf 32 0 (λ (k : ℕ). numberAt q (from + 2 * k)) i)
@@ -18,47 +15,37 @@ Inv-loop q from n a₀ i₀ a i = (i ≤ n) × (a ≡ placesOf 32 0 (λ (k : ℕ
 abbrev μ-loop : tie.MeasureT-loop
 μ-loop q from n a₀ i₀ a i = n - i
 
--- src/lib.rt:379:5
 loop-holds : tie.Need-loop-holds Inv-loop μ-loop
 unfolding firsts
 loop-holds c = search needs
 
--- src/lib.rt:380:36
 mul-number-at : tie.Need-mul-number-at Inv-loop μ-loop
 mul-number-at c = search needs
 
--- src/lib.rt:380:29
 add-number-at : tie.Need-add-number-at Inv-loop μ-loop
 add-number-at c = search needs
 
--- src/lib.rt:380:16
 number-at-requires : tie.Need-number-at-requires Inv-loop μ-loop
 number-at-requires c κs = search needs
 
--- src/lib.rt:380:9
 mul-a : tie.Need-mul-a Inv-loop μ-loop
 mul-a c = search needs
 
--- src/lib.rt:380:9
 array-write-a : tie.Need-array-write-a Inv-loop μ-loop
 array-write-a c = search needs
 
--- src/lib.rt:381:9
 add-i : tie.Need-add-i Inv-loop μ-loop
 add-i c = search needs
 
--- src/lib.rt:379:5
 loop-less : tie.Need-loop-less Inv-loop μ-loop
 loop-less c = search needs
 
--- src/lib.rt:379:5
 loop-again : tie.Need-loop-again Inv-loop μ-loop
 loop-again c =
     let a = c .before .before .before .before .args in
     let l = c .before .before .loop in
     (search needs, one-placed (λ (k : ℕ). numberAt (a .q .now) (a .from + 2 * k)) 32 0 (l .a) (l .i) _ (l .inv .1) (omega arith) (c .number-at .ensures))
 
--- src/lib.rt:373:1
 returns : tie.Need-returns Inv-loop μ-loop
 returns c =
     let a = c .before .before .before .args in

@@ -1,41 +1,28 @@
-use Rattle.records_tongzhu.specs.Layout.{fieldsOf}
-use Rattle.records_tongzhu.proofs.Shapes.{counted-shaped}
+use Rattle.monitor3_tongzhu.specs.Layout.{fieldsOf}
+use Rattle.monitor3_tongzhu.proofs.Shapes.{counted-shaped}
 use mathlib.Core.Path.{_≡_, sym, _∙_}
 use borrow.Author.Needs.{needs}
-use Rattle.records_tongzhu.proofs.fields_of.Statement.{statement}
-use Rattle.records_tongzhu.proofs.fields_of.Tie as tie
-use Rattle.records_tongzhu.proofs.fields_of.Reads as reads
-use Rattle.records_tongzhu.proofs.fields_of.Lts as lts
-use Rattle.records_tongzhu.proofs.lists_of.Reads as lists-of-reads
-use Rattle.records_tongzhu.proofs.misshapen.Reads as misshapen-reads
-use Rattle.records_tongzhu.proofs.monitor3_of.Reads as monitor3-of-reads
-use Rattle.records_tongzhu.proofs.shape_of.Reads as shape-of-reads
+use Rattle.monitor3_tongzhu.proofs.fields_of.Statement.{statement}
+use Rattle.monitor3_tongzhu.proofs.fields_of.Tie as tie
 
--- src/lib.rt:290:9
 shape-of-requires : tie.Need-shape-of-requires
 shape-of-requires c κs = search needs
 
--- src/lib.rt:292:24
 enum-known-shape : tie.Need-enum-known-shape
 enum-known-shape c = search needs
 
--- src/lib.rt:293:17
 lists-of-requires : tie.Need-lists-of-requires
 lists-of-requires c κs = counted-shaped _ _ (sym (c .before .shape .given .1) ∙ c .before .before .before .shape-of .ensures)
 
--- src/lib.rt:295:36
 monitor3-of-requires : tie.Need-monitor3-of-requires
 monitor3-of-requires c κs = counted-shaped _ _ (sym (c .before .before .shape .given .1) ∙ c .before .before .before .before .shape-of .ensures)
 
--- src/lib.rt:299:25
 enum-told : tie.Need-enum-told
 enum-told c = search needs
 
--- src/lib.rt:299:25
 misshapen-requires : tie.Need-misshapen-requires
 misshapen-requires c κs = search needs
 
--- src/lib.rt:287:1
 returns : tie.Need-returns
 unfolding fieldsOf
 returns c =
@@ -43,7 +30,6 @@ returns c =
     let e = sym (told .before .shape .given .1) ∙ told .before .before .before .shape-of .ensures in
     rw (← e, c .monitor3-of .ensures, c .before .lists-of .ensures)
 
--- src/lib.rt:287:1
 returns-2 : tie.Need-returns-2
 unfolding fieldsOf
 returns-2 c = let e = sym (c .before .enum-told .given .1) ∙ c .before .before .before .shape-of .ensures in rw (← e, c .misshapen .ensures)

@@ -7,13 +7,17 @@ use Prim.Native.Nat.{ℕ, _+_, _-_, _*_, _<_, _≤_}
 use native.Mathlib.Omega.{arith}
 use borrow.Author.Tests.{le-leb, lt-leb, eq-eqb, ne-eqb, leb-true, eqb-true}
 use lib.Dec.{leb, eqb}
+use lib.IntN.{ℤ}
 use lib.ListN.{length, getD, take, drop, length-drop, drop-of-length-le}
 use lib.Seq.{take-all}
 use Rattle.laws.proofs.Ladders.{into, both}
-use Rattle.records_tongzhu.specs.declared.Counts.{Counts}
-use Rattle.records_tongzhu.specs.declared.Shape.{Shape}
-use Rattle.records_tongzhu.specs.declared.Shape.the-variants.{Counted, Wrong}
-use Rattle.records_tongzhu.specs.Layout.{flagBytes, shaped, countsOf, judgedShape, withCells, shapeOf, Shaped, wrongFields, fieldsOf, fieldsAt}
+use Rattle.monitor3_tongzhu.specs.declared.Status.{Status}
+use Rattle.monitor3_tongzhu.specs.declared.Monitor3.{Monitor3}
+use Rattle.monitor3_tongzhu.specs.declared.Counts.{Counts}
+use Rattle.monitor3_tongzhu.specs.declared.Shape.{Shape}
+use Rattle.monitor3_tongzhu.specs.declared.Shape.the-variants.{Counted, Wrong}
+use Rattle.monitor3_tongzhu.specs.Values.{numberAt, currentAt, statusAt}
+use Rattle.monitor3_tongzhu.specs.Layout.{flagBytes, shaped, countsOf, judgedShape, withCells, shapeOf, Shaped, tailOf, monitor3Of, wrongFields, fieldsOf, fieldsAt}
 
 module _ (q : List ℕ) (c t m : ℕ) (ec : c ≡ getD q 6 0) (et : t ≡ getD q (7 + 2 * c + flagBytes c) 0)
   (em : m ≡ getD q (8 + 2 * c + flagBytes c + t) 0) where
@@ -73,6 +77,17 @@ counted-shaped q k h =
     let c = getD q 6 0 in
     let t = getD q (7 + 2 * c + flagBytes c) 0 in
     judged-shaped (length q) c t (getD q (8 + 2 * c + flagBytes c + t) 0) k h
+
+-- the numbers put together from their values
+pub monitor3-is : (q : List ℕ) (k : Counts) {s : Status} {i : ℤ} {a b d w : ℕ}
+    → s ≡ statusAt q 0 → i ≡ currentAt q 4 → a ≡ numberAt q (tailOf k) → b ≡ numberAt q (tailOf k + 2) → d ≡ numberAt q (tailOf k + 4)
+    → w ≡ getD q (tailOf k + 6) 0
+    → _≡_ {A = Monitor3} (record {
+      status = s; current = i; cells = k .cells; sensors = k .sensors; mosfets = k .mosfets;
+      cycles = a; remaining = b; capacity = d; switch = w
+    }) (monitor3Of q k)
+unfolding monitor3Of
+monitor3-is q k ps pi pa pb pd pw = rw (ps, pi, pa, pb, pd, pw)
 
 -- ---- fields that begin at an offset
 
