@@ -7,7 +7,7 @@ use Prim.Native.Nat.{ℕ, _+_, _-_, _<_, _≤_}
 use native.Mathlib.Omega.{arith}
 use borrow.Author.Tests.{lt-ltb, le-ltb, eq-eqb, ne-eqb, ltb-false, eqb-true}
 use lib.Dec.{ltb, eqb}
-use lib.ListN.{length, getD, take}
+use lib.ListN.{length, getD, take, drop}
 use Rattle.laws.specs.Choice.{pick}
 use Rattle.laws.proofs.Ladders.{past, into, both}
 use Rattle.refusals.specs.declared.Refusal.{Refusal}
@@ -57,6 +57,10 @@ module _ (s : List ℕ) (long : 6 ≤ length s) where
               simp (le-ltb _ _ long, eq-eqb _ _ mark, eq-eqb _ _ declared, closed, eq-eqb _ _ home, eq-eqb _ _ h)
 
 -- ---- what a whole frame says of its bytes
+
+-- what a caller hands on as `&s[start..start + len]`
+pub payload-part : (st n : ℕ) (s : List ℕ) → take (st + n - st) (drop st s) ≡ take n (drop st s)
+payload-part st n s = let e : st + n - st ≡ n = omega arith in rw e
 
 pub not-refused : (f st n : ℕ) (r : Refusal) → Whole f st n ≡ Refused r → ⊥
 not-refused f st n r h = let z : _≡_ {A = ℕ} 0 1 = cc in omega arith

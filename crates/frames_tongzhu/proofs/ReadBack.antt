@@ -8,7 +8,9 @@ use Prim.Native.Nat.{ℕ, suc, _+_, _-_, _<_, _≤_}
 use native.Mathlib.Omega.{arith}
 use lib.Dec.{lit<}
 use lib.ListN.{length, getD, take, drop, length-append, length-drop, drop-of-length-le}
-use lib.Seq.{take-at, getD-at, take-suc, take-add, length-take-le, split-at}
+use lib.Seq.{take-at, getD-at, take-add, take-append-seam, length-take-le, split-at}
+use Rattle.laws.proofs.Entries.{entries}
+use Rattle.laws.proofs.Fronts.{front}
 use Rattle.checks.specs.Sums.{total, closing, closes}
 use Rattle.checks.proofs.Closing.{test-closing, test-only}
 use Rattle.frames_tongzhu.specs.declared.Frame.the-variants.{Whole}
@@ -30,9 +32,9 @@ frame-reads-back f load =
     ap (Whole f 5) e
     ∙ whole s (omega arith) refl long (ap₂ (λ (l : List ℕ) (x : ℕ). closes 256 (total l) x) front last ∙ test-closing 256 (lit< tt) (total body)) refl refl
 
--- the front of five bytes, written out
-five : (s : List ℕ) → 5 ≤ length s → take 5 s ≡ getD s 0 0 ∷ getD s 1 0 ∷ getD s 2 0 ∷ getD s 3 0 ∷ getD s 4 0 ∷ []
-five s h = rw (take-suc s 4 0 (omega arith), take-suc s 3 0 (omega arith), take-suc s 2 0 (omega arith), take-suc s 1 0 (omega arith), take-suc s 0 0 (omega arith))
+pub payload-back : (f : ℕ) (load : List ℕ) → take (length load) (drop 5 (frameBytes f load)) ≡ load
+unfolding frameBytes
+payload-back f load = take-append-seam load (closing 256 (total (bodyOf f load)) ∷ [])
 
 -- all bytes but the last, and the last
 ends : (s : List ℕ) → 1 ≤ length s → s ≡ checked s ++ (check s ∷ [])
@@ -42,14 +44,14 @@ ends s h =
     split-at s j 0 (omega arith) ∙ ap (λ (l : List ℕ). take j s ++ (getD s j 0 ∷ l)) none
 
 pub frame-writes-back : (s : List ℕ) (f st n : ℕ) → Whole f st n ≡ frameOf s → check s < 256 → frameBytes f (take n (drop st s)) ≡ s
-unfolding frameBytes
+unfolding frameBytes entries
 frame-writes-back s f st n h byte =
     let p = whole-parts s f st n h in
     let load = take n (drop 5 s) in
     let size : length load ≡ n = length-take-le n (drop 5 s) (rw length-drop (omega arith)) in
     let sum : length load + 6 ≡ getD s 3 0 = omega arith in
     let j : length s - 1 ≡ 5 + n = omega arith in
-    let head : take 5 s ≡ headOf f (length load) = five s (omega arith) ∙ rw (p .mark, p .home, p .version, sum, p .function) in
+    let head : take 5 s ≡ headOf f (length load) = front s 5 (omega arith) ∙ rw (p .mark, p .home, p .version, sum, p .function) in
     let body : checked s ≡ bodyOf f load = rw j (take-add 5 n s ∙ ap (λ (l : List ℕ). l ++ load) head) in
     let last : check s ≡ closing 256 (total (bodyOf f load)) =
     test-only 256 (lit< tt) (total (bodyOf f load)) (check s) byte (ap (λ (l : List ℕ). closes 256 (total l) (check s)) (sym body) ∙ p .closed) in

@@ -40,6 +40,10 @@ module _ (len : ℕ) (out : List ℕ) where
       unfolding begun
       begun-is f = rw fitting (sets-eq (headOf f len) out 0 (omega arith))
 
+      pub begun-front : (f : ℕ) → begun f len out ≡ headOf f len ++ drop 5 out
+      unfolding begun
+      begun-front f = rw fitting
+
       pub sealed-is : (check : ℕ) → check ≡ closing 256 (total (take (len + 5 - 0) out)) → set out (len + 5) check ≡ sealed len out
       unfolding sealed
       sealed-is check e =
@@ -48,7 +52,7 @@ module _ (len : ℕ) (out : List ℕ) where
           rw fitting (set-split out (len + 5) check (omega arith) ∙ rw (n, e, k))
 
 -- a payload that stands after its head, with something after it, sealed
-pub sealed-frame : (f : ℕ) (load rest : List ℕ) → length load ≤ 249 → 1 ≤ length rest
+sealed-frame : (f : ℕ) (load rest : List ℕ) → length load ≤ 249 → 1 ≤ length rest
     → sealed (length load) (bodyOf f load ++ rest) ≡ frameBytes f load ++ drop 1 rest
 unfolding sealed frameBytes
 sealed-frame f load rest short some =
@@ -60,3 +64,17 @@ sealed-frame f load rest short some =
     let back : drop (length load + 6) (body ++ rest) ≡ drop 1 rest =
     ap (λ (i : ℕ). drop i (body ++ rest)) e ∙ drop-append-add body rest 1 in
     rw (fitting (length load) (body ++ rest) short room) (rw (front, back) (sym (append-assoc body (closing 256 (total body) ∷ []) (drop 1 rest))))
+
+-- the room that was begun, has the payload in its place and is sealed: the frame, and what was there past it
+pub frame-made : (f : ℕ) (load out : List ℕ) → length load ≤ 249 → length load + 6 ≤ length out
+    → sealed (length load) (bodyOf f load ++ drop (length load) (drop 5 out)) ≡ frameBytes f load ++ drop (length load + 6) out
+frame-made f load out short room =
+    let n = length load in
+    let e : 5 + n + 1 ≡ n + 6 = omega arith in
+    let rest : drop 1 (drop n (drop 5 out)) ≡ drop (n + 6) out =
+    ap (drop 1) (drop-drop n 5 out) ∙ drop-drop 1 (5 + n) out ∙ ap (λ (i : ℕ). drop i out) e in
+    sealed-frame f load (drop n (drop 5 out)) short (rw (length-drop, length-drop) (omega arith)) ∙ ap (λ (l : List ℕ). frameBytes f load ++ l) rest
+
+pub frame-length : (f : ℕ) (load : List ℕ) → length (frameBytes f load) ≡ length load + 6
+unfolding frameBytes
+frame-length f load = length-append (bodyOf f load) (closing 256 (total (bodyOf f load)) ∷ []) ∙ omega arith

@@ -1,4 +1,5 @@
 pub mod Below
 pub mod Entries
+pub mod Fronts
 pub mod Ladders
 pub mod Walk

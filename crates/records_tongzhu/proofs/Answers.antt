@@ -18,6 +18,7 @@ use Rattle.frames_tongzhu.specs.Functions.{kindOf}
 use Rattle.frames_tongzhu.proofs.Kind.{the-type}
 use Rattle.frames_tongzhu.specs.declared.Frame.the-variants.{Whole, Refused as NoFrame}
 use Rattle.frames_tongzhu.specs.Reading.{frameOf}
+use Rattle.frames_tongzhu.proofs.Ladder.{payload-part}
 use Rattle.monitor3_tongzhu.specs.declared.Status.{Status}
 use Rattle.monitor3_tongzhu.specs.Values.{numberAt, currentAt, temperatureAt, statusAt}
 use Rattle.records_tongzhu.specs.declared.Monitor2.{Monitor2}
@@ -85,6 +86,4 @@ module _ (asked : ℕ) (s : List ℕ) where
 
   pub whole-frame : (f st n : ℕ) → Whole f st n ≡ frameOf s → answerTo asked f (take (st + n - st) (drop st s)) ≡ replyOf asked s
   unfolding replyOf
-  whole-frame f st n e =
-      let k : st + n - st ≡ n = omega arith in
-      ap (λ (i : ℕ). answerTo asked f (take i (drop st s))) k ∙ ap (ofFrame asked s) e
+  whole-frame f st n e = ap (answerTo asked f) (payload-part st n s) ∙ ap (ofFrame asked s) e
