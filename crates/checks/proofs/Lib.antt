@@ -1,5 +1,6 @@
-pub mod ByTable
 pub mod Closing
 pub mod Damage
 pub mod Linear
+pub mod Moves
+pub mod Pairs
 pub mod Xor

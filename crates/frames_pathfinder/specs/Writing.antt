@@ -1,0 +1,38 @@
+-- The bytes of a Pathfinder frame, and what the two halves of its writer leave in lent room (000, Serial message format; 01, Pathfinder).
+-- Assumes nothing.
+use Prim.Native.Nat.{ℕ, _+_, _/_, _%_}
+use mathlib.Core.Bool.{Bool, _&&_}
+use mathlib.Core.List.{List, [], _∷_, _++_}
+use lib.ListN.{length, take, drop}
+use lib.Dec.{leb}
+use Rattle.laws.specs.Choice.{pick}
+use Rattle.checks.specs.Crc.{crcOf}
+
+-- start mark, length and opcode of a frame with so many bytes of data
+abbrev pub headOf : ℕ → ℕ → List ℕ
+headOf op len = 0xFE ∷ (len + 1) ∷ op ∷ []
+
+-- what the checksum covers: length, opcode and data
+abbrev pub coveredOf : ℕ → List ℕ → List ℕ
+coveredOf op load = (length load + 1) ∷ op ∷ load
+
+-- checksum, the high byte first, and end mark
+abbrev pub endOf : ℕ → List ℕ
+endOf sum = sum / 256 ∷ sum % 256 ∷ 0xFD ∷ []
+
+-- the frame with this opcode and these data
+unfoldable pub frameBytes : ℕ → List ℕ → List ℕ
+frameBytes op load = (0xFE ∷ coveredOf op load) ++ endOf (crcOf (coveredOf op load))
+
+-- the length byte is at most 255, and the frame lies within the room
+abbrev pub fits : ℕ → List ℕ → Bool
+fits len out = leb len 254 && leb (len + 6) (length out)
+
+-- the room with a frame begun in it
+unfoldable pub begun : ℕ → ℕ → List ℕ → List ℕ
+begun op len out = pick (fits len out) (headOf op len ++ drop 3 out) out
+
+-- the room with checksum and end mark after what stands before them
+unfoldable pub sealed : ℕ → List ℕ → List ℕ
+sealed len out =
+    pick (fits len out) (take (len + 3) out ++ (endOf (crcOf (take (len + 2) (drop 1 out))) ++ drop (len + 6) out)) out

@@ -1,0 +1,20 @@
+# Read by the scripts in tests/: goes to the repository's root and builds the independent decoder's programs.
+# Afterwards $programs is the folder they are in, and $console the console to be tested: $CONSOLE if that is set,
+# else the one that the toolchain builds.
+
+cd "$(dirname "${BASH_SOURCE[0]}")/../.." || exit 2
+
+CARGO_TARGET_DIR=$PWD/target/independent \
+    cargo build --release --offline --quiet --manifest-path tests/independent/Cargo.toml || exit 2
+programs=$PWD/target/independent/release
+
+need_console() {
+    console=${CONSOLE:-$PWD/target/bin/console}
+    if [ -z "${CONSOLE:-}" ] && [ ! -e "$console" ]; then
+        rt check console || exit 2
+    fi
+    if [ ! -x "$console" ]; then
+        echo "there is no program $console" >&2
+        exit 2
+    fi
+}
