@@ -1,19 +1,17 @@
 -- The ways out of `frameOf`, each from the facts that the reader has there, and what a whole frame says of its bytes.
 -- Each way rewrites the ladder with its tests; the inversion goes down the ladder past each refusal. Assumes nothing.
-use mathlib.Core.Path.{_≡_, refl, sym, ap, _∙_}
-use mathlib.Core.Bool.{Bool, true, false, _&&_}
+use mathlib.Core.Path.{_≡_}
+use mathlib.Core.Bool.{true, false, _&&_}
 use mathlib.Core.List.{List}
 use Prim.Native.Nat.{ℕ, _+_, _-_, _<_, _≤_}
 use native.Mathlib.Omega.{arith}
 use borrow.Author.Tests.{lt-ltb, le-ltb, eq-eqb, ne-eqb, ltb-false, eqb-true}
 use lib.Dec.{ltb, eqb}
 use lib.ListN.{length, getD, take, drop}
-use Rattle.laws.specs.Choice.{pick}
 use Rattle.laws.proofs.Ladders.{past, into, both}
 use Rattle.refusals.specs.declared.Refusal.{Refusal}
 use Rattle.refusals.specs.Refused.{refusedWith, short, firstMark, lengths, checksum, address}
 use Rattle.checks.specs.Sums.{total, closes}
-use Rattle.frames_tongzhu.specs.declared.Frame.{Frame}
 use Rattle.frames_tongzhu.specs.declared.Frame.the-variants.{Whole, Refused}
 use Rattle.frames_tongzhu.specs.Reading.{checked, check, frameOf}
 
@@ -95,5 +93,5 @@ whole-parts s f st n h =
       function = cc (w .1);
       start = cc (w .1);
       count = omega arith;
-      closed = e .0
+      closed = e .0;
     }

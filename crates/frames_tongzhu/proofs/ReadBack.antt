@@ -1,9 +1,9 @@
 -- A frame that was written is read back, for every function and payload; and a frame that is read is the one written from its parts.
--- The first by the law of the whole frame; the second puts the bytes together from their parts, the check being the one that closes the sum.
+-- The first by the law of the whole frame; the second puts the bytes together from their parts, the check being the one that closes the
+-- sum.
 -- Assumes nothing.
 use mathlib.Core.Path.{_≡_, refl, sym, ap, ap₂, _∙_}
-use mathlib.Core.Bool.{Bool, true, false}
-use mathlib.Core.List.{List, [], _∷_, _++_, append-assoc}
+use mathlib.Core.List.{List, [], _∷_, _++_}
 use Prim.Native.Nat.{ℕ, suc, _+_, _-_, _<_, _≤_}
 use native.Mathlib.Omega.{arith}
 use lib.Dec.{lit<}
@@ -16,7 +16,7 @@ use Rattle.checks.proofs.Closing.{test-closing, test-only}
 use Rattle.frames_tongzhu.specs.declared.Frame.the-variants.{Whole}
 use Rattle.frames_tongzhu.specs.Reading.{checked, check, frameOf}
 use Rattle.frames_tongzhu.specs.Writing.{headOf, bodyOf, frameBytes}
-use Rattle.frames_tongzhu.proofs.Ladder.{whole, Parts, whole-parts}
+use Rattle.frames_tongzhu.proofs.Ladder.{whole, whole-parts}
 
 pub frame-reads-back : (f : ℕ) (load : List ℕ) → Whole f 5 (length load) ≡ frameOf (frameBytes f load)
 unfolding frameBytes
@@ -30,7 +30,8 @@ frame-reads-back f load =
     let last : check s ≡ k = getD-at body k [] 0 (length s - 1) n in
     let e : length load ≡ length s - 6 = omega arith in
     ap (Whole f 5) e
-    ∙ whole s (omega arith) refl long (ap₂ (λ (l : List ℕ) (x : ℕ). closes 256 (total l) x) front last ∙ test-closing 256 (lit< tt) (total body)) refl refl
+    ∙ whole s (omega arith) refl long
+    (ap₂ (λ (l : List ℕ) (x : ℕ). closes 256 (total l) x) front last ∙ test-closing 256 (lit< tt) (total body)) refl refl
 
 pub payload-back : (f : ℕ) (load : List ℕ) → take (length load) (drop 5 (frameBytes f load)) ≡ load
 unfolding frameBytes
@@ -54,6 +55,7 @@ frame-writes-back s f st n h byte =
     let head : take 5 s ≡ headOf f (length load) = front s 5 (omega arith) ∙ rw (p .mark, p .home, p .version, sum, p .function) in
     let body : checked s ≡ bodyOf f load = rw j (take-add 5 n s ∙ ap (λ (l : List ℕ). l ++ load) head) in
     let last : check s ≡ closing 256 (total (bodyOf f load)) =
-    test-only 256 (lit< tt) (total (bodyOf f load)) (check s) byte (ap (λ (l : List ℕ). closes 256 (total l) (check s)) (sym body) ∙ p .closed) in
+    test-only 256 (lit< tt) (total (bodyOf f load)) (check s) byte
+    (ap (λ (l : List ℕ). closes 256 (total l) (check s)) (sym body) ∙ p .closed) in
     ap (λ (i : ℕ). frameBytes f (take n (drop i s))) (p .start)
     ∙ sym (ends s (omega arith) ∙ ap₂ (λ (l : List ℕ) (x : ℕ). l ++ (x ∷ [])) body last)

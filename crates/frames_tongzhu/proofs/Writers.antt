@@ -1,16 +1,14 @@
 -- What `begin` and `seal` leave in the lent room, and that around a payload the two make its frame.
--- A run of stores is a list put in place of the front; a part that was lent comes back between what was before and after it. Assumes nothing.
-use mathlib.Core.Path.{_≡_, refl, sym, ap, ap₂, _∙_}
-use mathlib.Core.Bool.{Bool, true, false, _&&_}
+-- A run of stores is a list put in place of the front; a part that was lent comes back between what was before and after it. Assumes
+-- nothing.
+use mathlib.Core.Path.{_≡_, sym, ap, _∙_}
+use mathlib.Core.Bool.{true, false}
 use mathlib.Core.List.{List, [], _∷_, _++_, append-assoc}
 use Prim.Native.Nat.{ℕ, suc, _+_, _-_, _<_, _≤_}
-use native.Mathlib.Numerals.{add-one}
 use native.Mathlib.Omega.{arith}
 use borrow.Author.Tests.{le-leb, lt-leb}
-use lib.Dec.{leb}
 use lib.ListN.{length, take, drop, set, length-append, length-drop}
 use lib.Seq.{sets-eq, set-split, take-at, drop-append-add, drop-drop}
-use Rattle.laws.specs.Choice.{pick}
 use Rattle.checks.specs.Sums.{total, closing}
 use Rattle.frames_tongzhu.specs.Writing.{headOf, bodyOf, frameBytes, fits, begun, sealed}
 
@@ -63,7 +61,8 @@ sealed-frame f load rest short some =
     let e : length load + 6 ≡ length body + 1 = omega arith in
     let back : drop (length load + 6) (body ++ rest) ≡ drop 1 rest =
     ap (λ (i : ℕ). drop i (body ++ rest)) e ∙ drop-append-add body rest 1 in
-    rw (fitting (length load) (body ++ rest) short room) (rw (front, back) (sym (append-assoc body (closing 256 (total body) ∷ []) (drop 1 rest))))
+    rw (fitting (length load) (body ++ rest) short room)
+    (rw (front, back) (sym (append-assoc body (closing 256 (total body) ∷ []) (drop 1 rest))))
 
 -- the room that was begun, has the payload in its place and is sealed: the frame, and what was there past it
 pub frame-made : (f : ℕ) (load out : List ℕ) → length load ≤ 249 → length load + 6 ≤ length out
@@ -73,7 +72,8 @@ frame-made f load out short room =
     let e : 5 + n + 1 ≡ n + 6 = omega arith in
     let rest : drop 1 (drop n (drop 5 out)) ≡ drop (n + 6) out =
     ap (drop 1) (drop-drop n 5 out) ∙ drop-drop 1 (5 + n) out ∙ ap (λ (i : ℕ). drop i out) e in
-    sealed-frame f load (drop n (drop 5 out)) short (rw (length-drop, length-drop) (omega arith)) ∙ ap (λ (l : List ℕ). frameBytes f load ++ l) rest
+    sealed-frame f load (drop n (drop 5 out)) short (rw (length-drop, length-drop) (omega arith))
+    ∙ ap (λ (l : List ℕ). frameBytes f load ++ l) rest
 
 pub frame-length : (f : ℕ) (load : List ℕ) → length (frameBytes f load) ≡ length load + 6
 unfolding frameBytes

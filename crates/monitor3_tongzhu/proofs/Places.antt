@@ -1,4 +1,4 @@
--- An array that is filled from the front, of any type of element: it begins with nothing but z, and one store adds one value.
+-- An array that is filled from the front, of any type of element: one store adds one value before the places that are z.
 -- Assumes nothing.
 use mathlib.Core.Path.{_≡_, refl, sym, ap, _∙_}
 use mathlib.Core.List.{List, [], _∷_, _++_, append-assoc}
@@ -16,10 +16,6 @@ module _ {A : Type 0} (f : ℕ → A) where
   length-firsts (suc n) = length-append (firsts f n) (f n ∷ []) ∙ ap (λ (k : ℕ). k + 1) (length-firsts n) ∙ add-one n
 
   module _ (k : ℕ) (z : A) where
-    pub none-placed : replicate k z ≡ placesOf k z f 0
-    unfolding firsts
-    none-placed = let e : k ≡ k - 0 = omega arith in ap (λ (n : ℕ). replicate n z) e
-
     pub one-placed : (a : List A) (i : ℕ) (v : A) → a ≡ placesOf k z f i → i < k → v ≡ f i → set a i v ≡ placesOf k z f (i + 1)
     unfolding firsts
     one-placed a i v e h w =

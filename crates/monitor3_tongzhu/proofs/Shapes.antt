@@ -1,12 +1,11 @@
 -- The ways out of `shapeOf`, each from the facts that the code has there, and what counts that were accepted say of the number of bytes.
 -- Each way rewrites the test with its parts; the other way round the test is taken apart. Assumes nothing.
-use mathlib.Core.Path.{_≡_, refl, sym, ap, _∙_}
-use mathlib.Core.Bool.{true}
+use mathlib.Core.Path.{_≡_, sym, ap, _∙_}
 use mathlib.Core.List.{List, []}
 use Prim.Native.Nat.{ℕ, _+_, _-_, _*_, _<_, _≤_}
 use native.Mathlib.Omega.{arith}
 use borrow.Author.Tests.{le-leb, lt-leb, eq-eqb, ne-eqb, leb-true, eqb-true}
-use lib.Dec.{leb, eqb}
+use lib.Dec.{leb}
 use lib.IntN.{ℤ}
 use lib.ListN.{length, getD, take, drop, length-drop, drop-of-length-le}
 use lib.Seq.{take-all}
@@ -14,13 +13,12 @@ use Rattle.laws.proofs.Ladders.{into, both}
 use Rattle.monitor3_tongzhu.specs.declared.Status.{Status}
 use Rattle.monitor3_tongzhu.specs.declared.Monitor3.{Monitor3}
 use Rattle.monitor3_tongzhu.specs.declared.Counts.{Counts}
-use Rattle.monitor3_tongzhu.specs.declared.Shape.{Shape}
 use Rattle.monitor3_tongzhu.specs.declared.Shape.the-variants.{Counted, Wrong}
 use Rattle.monitor3_tongzhu.specs.Values.{numberAt, currentAt, statusAt}
 use Rattle.monitor3_tongzhu.specs.Layout.{flagBytes, shaped, countsOf, judgedShape, withCells, shapeOf, Shaped, tailOf, monitor3Of, wrongFields, fieldsOf, fieldsAt}
 
 module _ (q : List ℕ) (c t m : ℕ) (ec : c ≡ getD q 6 0) (et : t ≡ getD q (7 + 2 * c + flagBytes c) 0)
-  (em : m ≡ getD q (8 + 2 * c + flagBytes c + t) 0) where
+    (em : m ≡ getD q (8 + 2 * c + flagBytes c + t) 0) where
   judged : judgedShape (length q) c t m ≡ shapeOf q
   unfolding shapeOf
   judged =
@@ -68,7 +66,7 @@ judged-shaped n c t m k h =
       few-flags = omega arith;
       few-sensors = leb-true t 16 (d .0);
       few-mosfets = leb-true m 16 (e .0);
-      total = eqb-true _ _ (e .1)
+      total = eqb-true _ _ (e .1);
     })
 
 pub counted-shaped : (q : List ℕ) (k : Counts) → Counted k ≡ shapeOf q → Shaped (length q) k
@@ -83,8 +81,15 @@ pub monitor3-is : (q : List ℕ) (k : Counts) {s : Status} {i : ℤ} {a b d w : 
     → s ≡ statusAt q 0 → i ≡ currentAt q 4 → a ≡ numberAt q (tailOf k) → b ≡ numberAt q (tailOf k + 2) → d ≡ numberAt q (tailOf k + 4)
     → w ≡ getD q (tailOf k + 6) 0
     → _≡_ {A = Monitor3} (record {
-      status = s; current = i; cells = k .cells; sensors = k .sensors; mosfets = k .mosfets;
-      cycles = a; remaining = b; capacity = d; switch = w
+      status = s;
+      current = i;
+      cells = k .cells;
+      sensors = k .sensors;
+      mosfets = k .mosfets;
+      cycles = a;
+      remaining = b;
+      capacity = d;
+      switch = w;
     }) (monitor3Of q k)
 unfolding monitor3Of
 monitor3-is q k ps pi pa pb pd pw = rw (ps, pi, pa, pb, pd, pw)

@@ -62,7 +62,7 @@ monitor3Of q k = record {
   cycles = numberAt q (tailOf k);
   remaining = numberAt q (tailOf k + 2);
   capacity = numberAt q (tailOf k + 4);
-  switch = getD q (tailOf k + 6) 0
+  switch = getD q (tailOf k + 6) 0;
 }
 
 unfoldable pub listsOf : List ℕ → Counts → Lists
@@ -70,7 +70,7 @@ listsOf q k = record {
   cells = placesOf 32 0 (λ i. numberAt q (7 + 2 * i)) (k .cells);
   balance = placesOf 4 0 (λ i. getD q (7 + 2 * k .cells + i) 0) (k .flags);
   sensors = placesOf 16 (pos 0) (λ i. temperatureAt q (8 + 2 * k .cells + k .flags + i)) (k .sensors);
-  mosfets = placesOf 16 (pos 0) (λ i. temperatureAt q (9 + 2 * k .cells + k .flags + k .sensors + i)) (k .mosfets)
+  mosfets = placesOf 16 (pos 0) (λ i. temperatureAt q (9 + 2 * k .cells + k .flags + k .sensors + i)) (k .mosfets);
 }
 
 -- all places 0
@@ -79,7 +79,7 @@ noLists = record {
   cells = replicate 32 0;
   balance = replicate 4 0;
   sensors = replicate 16 (pos 0);
-  mosfets = replicate 16 (pos 0)
+  mosfets = replicate 16 (pos 0);
 }
 
 -- a payload of the wrong shape is 8

@@ -27,7 +27,7 @@ statusAt p i = record {
   first = getD p i 0;
   second = getD p (i + 1) 0;
   third = getD p (i + 2) 0;
-  fourth = getD p (i + 3) 0
+  fourth = getD p (i + 3) 0;
 }
 
 -- what f gives at 0 to n - 1

@@ -40,8 +40,17 @@ pub monitor2-is : (p : List ℕ) {s : Status} {i h c : ℤ} {a b d e f g w : ℕ
     → s ≡ statusAt p 0 → i ≡ currentAt p 4 → a ≡ numberAt p 6 → b ≡ numberAt p 8 → d ≡ numberAt p 10
     → h ≡ temperatureAt p 12 → c ≡ temperatureAt p 13 → e ≡ numberAt p 14 → f ≡ numberAt p 16 → g ≡ numberAt p 18 → w ≡ getD p 20 0
     → _≡_ {A = Monitor2} (record {
-      status = s; current = i; highest = a; lowest = b; total = d; hottest = h; coldest = c;
-      cycles = e; remaining = f; capacity = g; switch = w
+      status = s;
+      current = i;
+      highest = a;
+      lowest = b;
+      total = d;
+      hottest = h;
+      coldest = c;
+      cycles = e;
+      remaining = f;
+      capacity = g;
+      switch = w;
     }) (monitor2Of p)
 unfolding monitor2Of
 monitor2-is p ps pi pa pb pd ph pc pe pf pg pw = rw (ps, pi, pa, pb, pd, ph, pc, pe, pf, pg, pw)

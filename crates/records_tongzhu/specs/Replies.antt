@@ -1,11 +1,11 @@
--- What a reply says (002, 6; 01, Tongzhu and Refusal numbers): the refusals 7, 8 and 9 after the frame's own, the device error, or the record.
+-- What a reply says (002, 6; 01, Tongzhu and Refusal numbers): the refusals 7, 8 and 9 after the frame's own, the device error, or the
+-- record.
 -- Assumes nothing.
 use Prim.Native.Nat.{ℕ}
 use mathlib.Core.List.{List}
 use lib.ListN.{length, getD, take, drop}
 use lib.Dec.{eqb}
 use Rattle.laws.specs.Choice.{pick}
-use Rattle.refusals.specs.declared.Refusal.{Refusal}
 use Rattle.refusals.specs.Refused.{refusedWith, request, shape, range}
 use Rattle.frames_tongzhu.specs.declared.Kind.{Kind}
 use Rattle.frames_tongzhu.specs.declared.Kind.the-variants.{Reads, Sets, Unlisted}
@@ -30,7 +30,8 @@ alone a = record { answer = a; lists = noLists }
 abbrev pub refusedAs : ℕ → Reply
 refusedAs n = alone (is.Refused (refusedWith n))
 
--- function 11: status 4; current, highest, lowest, total 2 each; two temperatures 1 each; cycles, remaining, capacity 2 each; switch 1 (6.2.3)
+-- function 11: status 4; current, highest, lowest, total 2 each; two temperatures 1 each; cycles, remaining, capacity 2 each; switch 1
+-- (6.2.3)
 unfoldable pub monitor2Of : List ℕ → Monitor2
 monitor2Of p = record {
   status = statusAt p 0;
@@ -43,7 +44,7 @@ monitor2Of p = record {
   cycles = numberAt p 14;
   remaining = numberAt p 16;
   capacity = numberAt p 18;
-  switch = getD p 20 0
+  switch = getD p 20 0;
 }
 
 -- function 12: the fields from the payload's first byte on, with their lists

@@ -1,8 +1,9 @@
--- Times and their six bytes, there and back: a real time is read back from its bytes, and six bytes that are a real time are those written for it.
+-- Times and their six bytes, there and back: a real time is read back from its bytes, and six bytes that are a real time are those written
+-- for it.
 -- A real date or time has numbers below 100 only, so none of them is the 255 that stands for no BCD. Assumes nothing.
 use mathlib.Core.Path.{_≡_, refl, sym, ap, _∙_}
 use mathlib.Core.Bool.{Bool, true, false, _&&_}
-use mathlib.Core.List.{List, [], _∷_}
+use mathlib.Core.List.{List}
 use Prim.Native.Nat.{ℕ, _+_, _-_, _<_, _≤_}
 use native.Mathlib.Omega.{arith}
 use borrow.Author.Tests.{lt-ltb, ltb-true, leb-true}
@@ -84,7 +85,7 @@ real-small t h =
       day = omega arith;
       hour = omega arith;
       minute = omega arith;
-      second = omega arith
+      second = omega arith;
     }
 
 -- ---- the six bytes
@@ -92,7 +93,14 @@ real-small t h =
 pub time-back : (t : Time) → real t ≡ true → timeIn (timeBytes t) ≡ t
 time-back t h =
     let s = real-small t h in
-    rw (number-back (t .year) (s .year), number-back (t .month) (s .month), number-back (t .day) (s .day), number-back (t .hour) (s .hour), number-back (t .minute) (s .minute), number-back (t .second) (s .second))
+    rw (
+      number-back (t .year) (s .year),
+      number-back (t .month) (s .month),
+      number-back (t .day) (s .day),
+      number-back (t .hour) (s .hour),
+      number-back (t .minute) (s .minute),
+      number-back (t .second) (s .second),
+    )
 
 pub bytes-back : (p : List ℕ) → length p ≡ 6 → ((i : ℕ) → getD p i 0 < 256) → real (timeIn p) ≡ true → timeBytes (timeIn p) ≡ p
 unfolding entries
@@ -100,5 +108,12 @@ bytes-back p six byte h =
     let s = real-small (timeIn p) h in
     let whole : take 6 p ≡ p = take-all 6 p (omega arith) in
     let parts = front p 6 (omega arith) in
-    rw (byte-back _ (byte 0) (s .year), byte-back _ (byte 1) (s .month), byte-back _ (byte 2) (s .day), byte-back _ (byte 3) (s .hour), byte-back _ (byte 4) (s .minute), byte-back _ (byte 5) (s .second))
+    rw (
+      byte-back _ (byte 0) (s .year),
+      byte-back _ (byte 1) (s .month),
+      byte-back _ (byte 2) (s .day),
+      byte-back _ (byte 3) (s .hour),
+      byte-back _ (byte 4) (s .minute),
+      byte-back _ (byte 5) (s .second),
+    )
     (sym parts ∙ whole)

@@ -1,6 +1,6 @@
 -- The ways out of `payloadIn` and `parsedOf`, each from the facts that the code has there.
 -- Assumes nothing.
-use mathlib.Core.Path.{_≡_, refl, sym, ap, _∙_}
+use mathlib.Core.Path.{_≡_, ap, _∙_}
 use mathlib.Core.List.{List}
 use Prim.Native.Nat.{ℕ, _+_, _-_}
 use borrow.Author.Tests.{eq-eqb, ne-eqb}

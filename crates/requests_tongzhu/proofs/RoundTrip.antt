@@ -1,5 +1,6 @@
 -- The round trip, both ways, for all Tongzhu requests: `written-reads-back` and `read-writes-back`.
--- A written frame is read back whole (`frame-reads-back`), and what is in it by the laws of its payload; a frame that is read is the one made
+-- A written frame is read back whole (`frame-reads-back`), and what is in it by the laws of its payload; a frame that is read is the one
+-- made
 -- of its function and payload (`frame-writes-back`), and the payload is the one written for what was read. Assumes nothing.
 use mathlib.Core.Path.{_≡_, refl, sym, ap, _∙_}
 use mathlib.Core.Bool.{Bool, true, false}
@@ -13,7 +14,7 @@ use lib.Seq.{take-append-seam, getD-take, getD-drop}
 use Rattle.laws.specs.Choice.{pick}
 use Rattle.laws.proofs.Ladders.{past, into}
 use Rattle.refusals.specs.declared.Refusal.{Refusal}
-use Rattle.refusals.specs.Refused.{refusedWith, room}
+use Rattle.refusals.specs.Refused.{refusedWith, range, room}
 use Rattle.frames_tongzhu.specs.declared.Kind.{Kind}
 use Rattle.frames_tongzhu.specs.declared.Kind.the-variants.{Reads, Sets, Unlisted}
 use Rattle.frames_tongzhu.specs.declared.Frame.{Frame as Framed}
@@ -23,11 +24,9 @@ use Rattle.frames_tongzhu.specs.Reading.{frameOf}
 use Rattle.frames_tongzhu.specs.Writing.{frameBytes}
 use Rattle.frames_tongzhu.proofs.Listed.{only-setting}
 use Rattle.frames_tongzhu.proofs.ReadBack.{frame-reads-back, payload-back, frame-writes-back}
-use Rattle.requests_tongzhu.specs.declared.Time.{Time}
 use Rattle.requests_tongzhu.specs.declared.Request.{Request}
 use Rattle.requests_tongzhu.specs.declared.Request.the-variants.{Ask, SetTime}
 use Rattle.requests_tongzhu.specs.declared.Written.the-variants.{Frame, Refused as NotWritten}
-use Rattle.requests_tongzhu.specs.declared.Parsed.{Parsed}
 use Rattle.requests_tongzhu.specs.declared.Parsed.the-variants.{Is, Refused}
 use Rattle.requests_tongzhu.specs.Times.{real, timeIn, timeBytes}
 use Rattle.requests_tongzhu.specs.Requests.{Wire, bytes, none, askWire, wireOf, writtenOf, roomAfter, timeRequest, byKind, payloadIn, ofFrame, parsedOf}
@@ -53,10 +52,12 @@ bytes-read-back (Ask f) b h = go (kindOf f) refl h
     go Unlisted e w = absurd (no-bytes _ b w)
 bytes-read-back (SetTime t) b h = go (real t) refl h
   where
-    go : (r : Bool) → real t ≡ r → pick r (bytes (frameBytes 0x30 (timeBytes t))) (none (refusedWith 9)) ≡ bytes b → parsedOf b ≡ Is (SetTime t)
+    go : (r : Bool) → real t ≡ r → pick r (bytes (frameBytes 0x30 (timeBytes t))) (none (refusedWith range)) ≡ bytes b
+        → parsedOf b ≡ Is (SetTime t)
     go true e w =
         let same : b ≡ frameBytes 0x30 (timeBytes t) = cc in
-        ap parsedOf same ∙ frame-parsed 0x30 (timeBytes t) ∙ sym (timed 0x30 (timeBytes t) refl refl) ∙ ap timeRequest (time-back t e) ∙ rw e
+        ap parsedOf same ∙ frame-parsed 0x30 (timeBytes t) ∙ sym (timed 0x30 (timeBytes t) refl refl)
+        ∙ ap timeRequest (time-back t e) ∙ rw e
     go false e w = absurd (no-bytes _ b w)
 
 -- THE FIRST THEOREM: what `write_request` answers `Frame n` for is read back from the n bytes at the front of the room
@@ -72,6 +73,7 @@ written-reads-back q out n h = go (wireOf q) refl h
         let size : n ≡ length b = cc in
         ap (λ (k : ℕ). parsedOf (take k (b ++ drop (length b) out))) size
         ∙ ap parsedOf (take-append-seam b (drop (length b) out)) ∙ bytes-read-back q b e
+
     go : (w : Wire) → wireOf q ≡ w → writtenOf w (length out) ≡ Frame n → parsedOf (take n (roomAfter w out)) ≡ Is q
     go (bytes b) e a = fits b (ltb (length out) (length b)) e a
     go (none r) e a = let z : _≡_ {A = ℕ} 0 1 = cc in absurd (omega arith)
@@ -95,7 +97,8 @@ part-bytes s byte st n i = go (ltb i n) refl
         let past : length (take n (drop st s)) ≤ i = omega (arith, length-take n (drop st s), ltb-false i n e) in
         rw (List·getD-eq-default (take n (drop st s)) 0 past) (omega arith)
 
-payload-written : (f : ℕ) (p : List ℕ) (q : Request) → ((i : ℕ) → getD p i 0 < 256) → Is q ≡ payloadIn f p → wireOf q ≡ bytes (frameBytes f p)
+payload-written : (f : ℕ) (p : List ℕ) (q : Request) → ((i : ℕ) → getD p i 0 < 256) → Is q ≡ payloadIn f p
+    → wireOf q ≡ bytes (frameBytes f p)
 unfolding payloadIn wireOf timeRequest
 payload-written f p q byte h = go (kindOf f) refl h
   where

@@ -1,20 +1,19 @@
 -- What the writers answer and leave in the lent room, each from the facts that the code has there.
 -- Each way rewrites the definition with the request's bytes, or the reason why it has none, and with the test of the room. Assumes nothing.
-use mathlib.Core.Path.{_≡_, refl, sym, ap, _∙_}
+use mathlib.Core.Path.{_≡_, refl, ap, _∙_}
 use mathlib.Core.Bool.{true, false}
-use mathlib.Core.List.{List, [], _∷_, _++_}
-use Prim.Native.Nat.{ℕ, _+_, _-_, _<_, _≤_}
+use mathlib.Core.List.{List, [], _++_}
+use Prim.Native.Nat.{ℕ, _+_, _<_, _≤_}
 use native.Mathlib.Omega.{arith}
 use borrow.Author.Tests.{lt-ltb, le-ltb}
 use borrow.Rule.Slice.PartMut.{putMid}
 use lib.ListN.{length, drop, drop-of-length-le}
 use lib.Seq.{sets, sets-eq}
 use Rattle.refusals.specs.declared.Refusal.{Refusal}
-use Rattle.refusals.specs.Refused.{refusedWith, request, shape, range, room}
+use Rattle.refusals.specs.Refused.{refusedWith, range, room}
 use Rattle.frames_tongzhu.specs.declared.Kind.{Kind}
-use Rattle.frames_tongzhu.specs.declared.Kind.the-variants.{Reads, Sets, Unlisted}
 use Rattle.frames_tongzhu.specs.Functions.{kindOf}
-use Rattle.frames_tongzhu.specs.Writing.{headOf, frameBytes, begun, sealed}
+use Rattle.frames_tongzhu.specs.Writing.{frameBytes, begun, sealed}
 use Rattle.frames_tongzhu.proofs.Writers.{begun-front, frame-made, frame-length}
 use Rattle.requests_tongzhu.specs.declared.Time.{Time}
 use Rattle.requests_tongzhu.specs.declared.Request.the-variants.{Ask, SetTime}
@@ -67,7 +66,9 @@ unreal-wire t h = rw h
 
 -- a payload's room is written whole, store by store
 pub stored : (t : Time) (out : List ℕ) → length out ≡ 6 → sets out 0 (timeBytes t) ≡ timeBytes t
-stored t out e = sets-eq (timeBytes t) out 0 (omega arith) ∙ ap (λ (l : List ℕ). timeBytes t ++ l) (drop-of-length-le out {i = 6} (omega arith))
+stored t out e =
+    sets-eq (timeBytes t) out 0 (omega arith)
+    ∙ ap (λ (l : List ℕ). timeBytes t ++ l) (drop-of-length-le out {i = 6} (omega arith))
 
 -- ---- the room after `begin`, the payload and `seal`
 

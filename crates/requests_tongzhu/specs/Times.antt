@@ -27,7 +27,7 @@ timeIn p = record {
   day = plainOf (bcdOf (getD p 2 0));
   hour = plainOf (bcdOf (getD p 3 0));
   minute = plainOf (bcdOf (getD p 4 0));
-  second = plainOf (bcdOf (getD p 5 0))
+  second = plainOf (bcdOf (getD p 5 0));
 }
 
 -- the six bytes

@@ -1,7 +1,10 @@
+-- `frames_tongzhu::begin` meets its contract: five stores put the head in place of the front; where the frame has no room nothing was
+-- stored.
+-- Assumes nothing.
 use native.Mathlib.Omega.{arith}
+use borrow.Author.Needs.{needs}
 use lib.ListN.{length-set}
 use Rattle.frames_tongzhu.proofs.Writers.{begun-is, begin-nothing, no-room, too-long}
-use borrow.Author.Needs.{needs}
 use Rattle.frames_tongzhu.proofs.begin.Statement.{statement}
 use Rattle.frames_tongzhu.proofs.begin.Tie as tie
 
@@ -36,7 +39,9 @@ returns : tie.Need-returns
 returns c = let a = c .before .before .args in begun-is (a .len) (a .out .now) (omega arith) (omega arith) (a .function)
 
 returns-2 : tie.Need-returns-2
-returns-2 c = let a = c .before .before .args in begin-nothing (a .len) (a .out .now) (a .function) (no-room (a .len) (a .out .now) (omega arith) (omega arith))
+returns-2 c =
+    let a = c .before .before .args in
+    begin-nothing (a .len) (a .out .now) (a .function) (no-room (a .len) (a .out .now) (omega arith) (omega arith))
 
 returns-3 : tie.Need-returns-3
 returns-3 c = let a = c .before .args in begin-nothing (a .len) (a .out .now) (a .function) (too-long (a .len) (a .out .now) (omega arith))

@@ -1,14 +1,16 @@
-use Prim.Native.Nat.{ℕ, _-_}
+-- `frames_tongzhu::read_frame` meets its contract: each way out is a law of the ladder, from the tests that led there.
+-- Assumes nothing.
 use mathlib.Core.List.{List}
-use lib.ListN.{length, getD}
+use mathlib.Core.Path.{_≡_, sym, ap, _∙_}
+use Prim.Native.Nat.{ℕ, _-_}
 use native.Mathlib.Omega.{arith}
-use borrow.Author.Tests.{not-true, not-false}
-use Rattle.checks.specs.Sums.{total, closes}
-use Rattle.frames_tongzhu.specs.Reading.{checked, check}
-use mathlib.Core.Path.{_≡_, refl, sym, ap, _∙_}
-use Rattle.frames_tongzhu.specs.declared.Frame.the-variants.{Whole, Refused}
-use Rattle.frames_tongzhu.proofs.Ladder.{part-checked, too-short, wrong-mark, wrong-length, wrong-check, wrong-address, wrong-version, whole}
 use borrow.Author.Needs.{needs}
+use borrow.Author.Tests.{not-true, not-false}
+use lib.ListN.{length, getD}
+use Rattle.checks.specs.Sums.{total, closes}
+use Rattle.frames_tongzhu.proofs.Ladder.{part-checked, too-short, wrong-mark, wrong-length, wrong-check, wrong-address, wrong-version, whole}
+use Rattle.frames_tongzhu.specs.Reading.{checked, check}
+use Rattle.frames_tongzhu.specs.declared.Frame.the-variants.{Whole, Refused}
 use Rattle.frames_tongzhu.proofs.read_frame.Statement.{statement}
 use Rattle.frames_tongzhu.proofs.read_frame.Tie as tie
 
@@ -47,7 +49,9 @@ refuse-requires-3 : tie.Need-refuse-requires-3
 refuse-requires-3 c κs = search needs
 
 returns-3 : tie.Need-returns-3
-returns-3 c = let e = c .before .before .wide .ensures in ap Refused (c .refuse3 .ensures) ∙ wrong-length _ (search needs) (search needs) (λ h. c .before .if3 .taken (h ∙ sym e))
+returns-3 c =
+    let e = c .before .before .wide .ensures in
+    ap Refused (c .refuse3 .ensures) ∙ wrong-length _ (search needs) (search needs) (λ h. c .before .if3 .taken (h ∙ sym e))
 
 sub-last : tie.Need-sub-last
 sub-last c = search needs
@@ -73,7 +77,8 @@ refuse-requires-4 c κs = search needs
 returns-4 : tie.Need-returns-4
 returns-4 c =
     let closed = c .before .before in
-    ap Refused (c .refuse4 .ensures) ∙ wrong-check _ (search needs) (search needs) (declared closed) (sym (sums closed) ∙ not-true _ (c .before .if4 .taken))
+    ap Refused (c .refuse4 .ensures)
+    ∙ wrong-check _ (search needs) (search needs) (declared closed) (sym (sums closed) ∙ not-true _ (c .before .if4 .taken))
 
 shared-slice-read-if5 : tie.Need-shared-slice-read-if5
 shared-slice-read-if5 c = search needs
@@ -85,7 +90,8 @@ returns-5 : tie.Need-returns-5
 returns-5 c =
     let closed = c .before .before .before .before in
     ap Refused (c .refuse5 .ensures)
-    ∙ wrong-address _ (search needs) (search needs) (declared closed) (sym (sums closed) ∙ not-false _ (c .before .before .before .if4 .left)) (search needs)
+    ∙ wrong-address _ (search needs) (search needs) (declared closed)
+    (sym (sums closed) ∙ not-false _ (c .before .before .before .if4 .left)) (search needs)
 
 shared-slice-read-if6 : tie.Need-shared-slice-read-if6
 shared-slice-read-if6 c = search needs
@@ -97,7 +103,8 @@ returns-6 : tie.Need-returns-6
 returns-6 c =
     let closed = c .before .before .before .before .before .before in
     ap Refused (c .refuse6 .ensures)
-    ∙ wrong-version _ (search needs) (search needs) (declared closed) (sym (sums closed) ∙ not-false _ (c .before .before .before .before .before .if4 .left)) (search needs) (search needs)
+    ∙ wrong-version _ (search needs) (search needs) (declared closed)
+    (sym (sums closed) ∙ not-false _ (c .before .before .before .before .before .if4 .left)) (search needs) (search needs)
 
 shared-slice-read-t8 : tie.Need-shared-slice-read-t8
 shared-slice-read-t8 c = search needs
@@ -111,7 +118,8 @@ returns-7 c =
     let s = place closed in
     let e : length s - 1 - 5 ≡ length s - 6 = omega arith in
     ap (Whole (getD s 4 0) 5) e
-    ∙ whole s (search needs) (search needs) (declared closed) (sym (sums closed) ∙ not-false _ (c .before .before .before .before .before .if4 .left)) (search needs) (search needs)
+    ∙ whole s (search needs) (search needs) (declared closed)
+    (sym (sums closed) ∙ not-false _ (c .before .before .before .before .before .if4 .left)) (search needs) (search needs)
 
 pub read-frame-spec : {M : Type 1} → statement M
 read-frame-spec =

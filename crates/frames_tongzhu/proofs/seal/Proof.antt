@@ -1,6 +1,9 @@
+-- `frames_tongzhu::seal` meets its contract: the check is what closes the sum of all before it; where the frame has no room nothing was
+-- stored.
+-- Assumes nothing.
 use native.Mathlib.Omega.{arith}
-use Rattle.frames_tongzhu.proofs.Writers.{sealed-is, seal-nothing, no-room, too-long}
 use borrow.Author.Needs.{needs}
+use Rattle.frames_tongzhu.proofs.Writers.{sealed-is, seal-nothing, no-room, too-long}
 use Rattle.frames_tongzhu.proofs.seal.Statement.{statement}
 use Rattle.frames_tongzhu.proofs.seal.Tie as tie
 
@@ -32,10 +35,14 @@ same-length : tie.Need-same-length
 same-length c = search needs
 
 returns : tie.Need-returns
-returns c = let a = c .before .before .before .before .before .before .args in sealed-is (a .len) (a .out .now) (omega arith) (omega arith) _ (c .close256 .ensures)
+returns c =
+    let a = c .before .before .before .before .before .before .args in
+    sealed-is (a .len) (a .out .now) (omega arith) (omega arith) _ (c .close256 .ensures)
 
 returns-2 : tie.Need-returns-2
-returns-2 c = let a = c .before .before .before .args in seal-nothing (a .len) (a .out .now) (no-room (a .len) (a .out .now) (omega arith) (omega arith))
+returns-2 c =
+    let a = c .before .before .before .args in
+    seal-nothing (a .len) (a .out .now) (no-room (a .len) (a .out .now) (omega arith) (omega arith))
 
 returns-3 : tie.Need-returns-3
 returns-3 c = let a = c .before .before .args in seal-nothing (a .len) (a .out .now) (too-long (a .len) (a .out .now) (omega arith))

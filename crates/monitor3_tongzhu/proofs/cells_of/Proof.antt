@@ -1,11 +1,11 @@
+-- `monitor3_tongzhu::cells_of` meets its contract: the loop has placed the first i voltages, and 0 stands past them.
+-- Assumes nothing.
+use mathlib.Core.Path.{_≡_, ap, _∙_}
 use Prim.Native.Nat.{ℕ, _+_, _-_, _*_, _≤_}
-use mathlib.Core.Path.{_≡_, refl, ap, _∙_}
-use lib.ListN.{getD}
-use lib.IntN.{pos}
 use native.Mathlib.Omega.{arith}
 use borrow.Author.Needs.{needs}
-use Rattle.monitor3_tongzhu.specs.Values.{numberAt, temperatureAt, firsts, placesOf}
-use Rattle.monitor3_tongzhu.proofs.Places.{none-placed, one-placed}
+use Rattle.monitor3_tongzhu.proofs.Places.{one-placed}
+use Rattle.monitor3_tongzhu.specs.Values.{numberAt, firsts, placesOf}
 use Rattle.monitor3_tongzhu.proofs.cells_of.Statement.{statement}
 use Rattle.monitor3_tongzhu.proofs.cells_of.Tie as tie
 
@@ -43,8 +43,10 @@ loop-less c = search needs
 loop-again : tie.Need-loop-again Inv-loop μ-loop
 loop-again c =
     let a = c .before .before .before .before .args in
-    let l = c .before .before .loop in
-    (search needs, one-placed (λ (k : ℕ). numberAt (a .q .now) (a .from + 2 * k)) 32 0 (l .a) (l .i) _ (l .inv .1) (omega arith) (c .number-at .ensures))
+    let l = c .before .before .loop in (
+      search needs,
+      one-placed (λ (k : ℕ). numberAt (a .q .now) (a .from + 2 * k)) 32 0 (l .a) (l .i) _ (l .inv .1) (omega arith) (c .number-at .ensures),
+    )
 
 returns : tie.Need-returns Inv-loop μ-loop
 returns c =

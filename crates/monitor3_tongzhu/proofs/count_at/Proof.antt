@@ -1,7 +1,10 @@
+-- `monitor3_tongzhu::count_at` meets its contract: a byte within the payload is that byte, and past its end there is 0 by the definition
+-- too.
+-- Assumes nothing.
 use mathlib.Core.Path.{refl, sym}
-use lib.ListN.{List·getD-eq-default}
 use native.Mathlib.Omega.{arith}
 use borrow.Author.Needs.{needs}
+use lib.ListN.{List·getD-eq-default}
 use Rattle.monitor3_tongzhu.proofs.count_at.Statement.{statement}
 use Rattle.monitor3_tongzhu.proofs.count_at.Tie as tie
 

@@ -1,7 +1,9 @@
-use Rattle.monitor3_tongzhu.specs.Layout.{fieldsOf}
-use Rattle.monitor3_tongzhu.proofs.Shapes.{counted-shaped}
-use mathlib.Core.Path.{_≡_, sym, _∙_}
+-- `monitor3_tongzhu::fields_of` meets its contract: by the shape, which also says that the counts fit the bytes.
+-- Assumes nothing.
+use mathlib.Core.Path.{sym, _∙_}
 use borrow.Author.Needs.{needs}
+use Rattle.monitor3_tongzhu.proofs.Shapes.{counted-shaped}
+use Rattle.monitor3_tongzhu.specs.Layout.{fieldsOf}
 use Rattle.monitor3_tongzhu.proofs.fields_of.Statement.{statement}
 use Rattle.monitor3_tongzhu.proofs.fields_of.Tie as tie
 
@@ -15,7 +17,8 @@ lists-of-requires : tie.Need-lists-of-requires
 lists-of-requires c κs = counted-shaped _ _ (sym (c .before .shape .given .1) ∙ c .before .before .before .shape-of .ensures)
 
 monitor3-of-requires : tie.Need-monitor3-of-requires
-monitor3-of-requires c κs = counted-shaped _ _ (sym (c .before .before .shape .given .1) ∙ c .before .before .before .before .shape-of .ensures)
+monitor3-of-requires c κs =
+    counted-shaped _ _ (sym (c .before .before .shape .given .1) ∙ c .before .before .before .before .shape-of .ensures)
 
 enum-told : tie.Need-enum-told
 enum-told c = search needs

@@ -1,11 +1,12 @@
-use Prim.Native.Nat.{ℕ, _+_, _-_, _*_, _≤_}
+-- `monitor3_tongzhu::flags_of` meets its contract: the loop has placed the first i bytes, and 0 stands past them.
+-- Assumes nothing.
 use mathlib.Core.Path.{_≡_, refl, ap, _∙_}
-use lib.ListN.{getD}
-use lib.IntN.{pos}
+use Prim.Native.Nat.{ℕ, _+_, _-_, _≤_}
 use native.Mathlib.Omega.{arith}
 use borrow.Author.Needs.{needs}
-use Rattle.monitor3_tongzhu.specs.Values.{numberAt, temperatureAt, firsts, placesOf}
-use Rattle.monitor3_tongzhu.proofs.Places.{none-placed, one-placed}
+use lib.ListN.{getD}
+use Rattle.monitor3_tongzhu.proofs.Places.{one-placed}
+use Rattle.monitor3_tongzhu.specs.Values.{firsts, placesOf}
 use Rattle.monitor3_tongzhu.proofs.flags_of.Statement.{statement}
 use Rattle.monitor3_tongzhu.proofs.flags_of.Tie as tie
 

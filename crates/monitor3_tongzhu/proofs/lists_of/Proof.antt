@@ -1,5 +1,7 @@
-use Rattle.monitor3_tongzhu.specs.Layout.{listsOf}
+-- `monitor3_tongzhu::lists_of` meets its contract: the four lists are what the calls give; all places lie within the bytes by the counts.
+-- Assumes nothing.
 use borrow.Author.Needs.{needs}
+use Rattle.monitor3_tongzhu.specs.Layout.{listsOf}
 use Rattle.monitor3_tongzhu.proofs.lists_of.Statement.{statement}
 use Rattle.monitor3_tongzhu.proofs.lists_of.Tie as tie
 
@@ -44,7 +46,13 @@ temperatures-of-requires-2 c κs = search needs
 
 returns : tie.Need-returns
 unfolding listsOf
-returns c = rw (c .before .before .before .before .before .before .before .before .before .cells-of .ensures, c .before .before .before .before .before .before .before .flags-of .ensures, c .before .before .before .before .temperatures-of .ensures, c .temperatures-of2 .ensures)
+returns c =
+    rw (
+      c .before .before .before .before .before .before .before .before .before .cells-of .ensures,
+      c .before .before .before .before .before .before .before .flags-of .ensures,
+      c .before .before .before .before .temperatures-of .ensures,
+      c .temperatures-of2 .ensures,
+    )
 
 pub lists-of-spec : {M : Type 1} → statement M
 lists-of-spec =

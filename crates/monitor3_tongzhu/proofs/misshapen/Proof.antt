@@ -1,3 +1,5 @@
+-- `monitor3_tongzhu::misshapen` meets its contract: the refusal and the lists are what the calls give.
+-- Assumes nothing.
 use borrow.Author.Needs.{needs}
 use Rattle.monitor3_tongzhu.proofs.misshapen.Statement.{statement}
 use Rattle.monitor3_tongzhu.proofs.misshapen.Tie as tie

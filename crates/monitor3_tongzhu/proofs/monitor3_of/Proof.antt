@@ -1,9 +1,12 @@
-use Rattle.numbers.specs.Signed.{signedOf}
-use Rattle.monitor3_tongzhu.proofs.Shapes.{monitor3-is}
-use mir.ValLaws.{toZ-ofZ}
-use mir.Syntax.{w16}
-use mathlib.Core.Path.{_≡_, refl, ap, _∙_}
+-- `monitor3_tongzhu::monitor3_of` meets its contract: the record put together from what the calls give; all places lie within the bytes by
+-- the counts.
+-- Assumes nothing.
+use mathlib.Core.Path.{refl, ap, _∙_}
 use borrow.Author.Needs.{needs}
+use mir.Syntax.{w16}
+use mir.ValLaws.{toZ-ofZ}
+use Rattle.monitor3_tongzhu.proofs.Shapes.{monitor3-is}
+use Rattle.numbers.specs.Signed.{signedOf}
 use Rattle.monitor3_tongzhu.proofs.monitor3_of.Statement.{statement}
 use Rattle.monitor3_tongzhu.proofs.monitor3_of.Tie as tie
 
@@ -64,8 +67,10 @@ shared-slice-read-t18 c = search needs
 returns : tie.Need-returns
 returns c =
     let flow = c .before .before .before .before .before .before .before in
-    let current = toZ-ofZ w16 _ (record { sfits = flow .signed16 .ok }) ∙ flow .signed16 .ensures ∙ ap (signedOf 15) (flow .before .number-at .ensures) in
-    monitor3-is _ _ (flow .before .before .status-at .ensures) current (c .before .before .before .number-at2 .ensures) (c .before .before .number-at3 .ensures)
+    let current = toZ-ofZ w16 _ (record { sfits = flow .signed16 .ok }) ∙ flow .signed16 .ensures
+    ∙ ap (signedOf 15) (flow .before .number-at .ensures) in
+    monitor3-is _ _ (flow .before .before .status-at .ensures) current (c .before .before .before .number-at2 .ensures)
+    (c .before .before .number-at3 .ensures)
     (c .before .number-at4 .ensures) refl
 
 pub monitor3-of-spec : {M : Type 1} → statement M

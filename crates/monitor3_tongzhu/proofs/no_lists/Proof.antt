@@ -1,3 +1,5 @@
+-- `monitor3_tongzhu::no_lists` meets its contract: all places are 0 as written.
+-- Assumes nothing.
 use mathlib.Core.Path.{refl}
 use Rattle.monitor3_tongzhu.proofs.no_lists.Statement.{statement}
 use Rattle.monitor3_tongzhu.proofs.no_lists.Tie as tie

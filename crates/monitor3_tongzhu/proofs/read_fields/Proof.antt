@@ -1,6 +1,9 @@
-use Rattle.monitor3_tongzhu.proofs.Shapes.{beyond, from-there}
+-- `monitor3_tongzhu::read_fields` meets its contract: past the end there is nothing to read; else the part from the offset on is what the
+-- definition drops to.
+-- Assumes nothing.
 use mathlib.Core.Path.{_∙_}
 use borrow.Author.Needs.{needs}
+use Rattle.monitor3_tongzhu.proofs.Shapes.{beyond, from-there}
 use Rattle.monitor3_tongzhu.proofs.read_fields.Statement.{statement}
 use Rattle.monitor3_tongzhu.proofs.read_fields.Tie as tie
 

@@ -1,13 +1,14 @@
-use mir.Syntax.{w8}
-use mir.Val.{toZ, ofZ}
-use Prim.Native.Nat.{ℕ, _+_, _-_, _*_, _≤_}
-use mathlib.Core.Path.{_≡_, refl, ap, _∙_}
-use lib.ListN.{getD}
-use lib.IntN.{pos}
+-- `monitor3_tongzhu::temperatures_of` meets its contract: the loop has placed the first i temperatures, and 0 stands past them.
+-- Assumes nothing.
+use mathlib.Core.Path.{_≡_, ap, _∙_}
+use Prim.Native.Nat.{ℕ, _+_, _-_, _≤_}
 use native.Mathlib.Omega.{arith}
 use borrow.Author.Needs.{needs}
-use Rattle.monitor3_tongzhu.specs.Values.{numberAt, temperatureAt, firsts, placesOf}
-use Rattle.monitor3_tongzhu.proofs.Places.{none-placed, one-placed}
+use lib.IntN.{pos}
+use mir.Syntax.{w8}
+use mir.Val.{toZ, ofZ}
+use Rattle.monitor3_tongzhu.proofs.Places.{one-placed}
+use Rattle.monitor3_tongzhu.specs.Values.{temperatureAt, firsts, placesOf}
 use Rattle.monitor3_tongzhu.proofs.temperatures_of.Statement.{statement}
 use Rattle.monitor3_tongzhu.proofs.temperatures_of.Tie as tie
 
@@ -43,8 +44,11 @@ loop-again : tie.Need-loop-again Inv-loop μ-loop
 loop-again c =
     let a = c .before .before .before .before .before .args in
     let l = c .before .before .before .loop in
-    let e : toZ w8 (ofZ w8 (c .signed8 .result)) ≡ c .signed8 .result = search needs in
-    (search needs, one-placed (λ (k : ℕ). temperatureAt (a .q .now) (a .from + k)) 16 (pos 0) (l .a) (l .i) _ (l .inv .1) (omega arith) (e ∙ c .signed8 .ensures))
+    let e : toZ w8 (ofZ w8 (c .signed8 .result)) ≡ c .signed8 .result = search needs in (
+      search needs,
+      one-placed (λ (k : ℕ). temperatureAt (a .q .now) (a .from + k)) 16 (pos 0) (l .a) (l .i) _ (l .inv .1) (omega arith)
+          (e ∙ c .signed8 .ensures),
+    )
 
 returns : tie.Need-returns Inv-loop μ-loop
 returns c =

@@ -1,9 +1,11 @@
+-- `records_tongzhu::monitor2_of` meets its contract: the record put together from what the calls give.
+-- Assumes nothing.
+use mathlib.Core.Path.{refl, ap, _∙_}
+use borrow.Author.Needs.{needs}
 use mir.Syntax.{w8, w16}
 use mir.ValLaws.{toZ-ofZ}
-use Rattle.records_tongzhu.proofs.Answers.{monitor2-is}
 use Rattle.numbers.specs.Signed.{signedOf}
-use mathlib.Core.Path.{_≡_, refl, ap, _∙_}
-use borrow.Author.Needs.{needs}
+use Rattle.records_tongzhu.proofs.Answers.{monitor2-is}
 use Rattle.records_tongzhu.proofs.monitor2_of.Statement.{statement}
 use Rattle.records_tongzhu.proofs.monitor2_of.Tie as tie
 
@@ -59,7 +61,8 @@ returns c =
     monitor2-is _ (flow .before .before .status-of .ensures)
     (toZ-ofZ w16 _ (record { sfits = flow .signed16 .ok }) ∙ flow .signed16 .ensures ∙ ap (signedOf 15) (flow .before .number-at .ensures))
     (high .before .before .number-at2 .ensures) (high .before .number-at3 .ensures) (high .number-at4 .ensures)
-    (toZ-ofZ w8 _ (record { sfits = warm .signed8 .ok }) ∙ warm .signed8 .ensures) (toZ-ofZ w8 _ (record { sfits = cold .signed82 .ok }) ∙ cold .signed82 .ensures)
+    (toZ-ofZ w8 _ (record { sfits = warm .signed8 .ok }) ∙ warm .signed8 .ensures)
+    (toZ-ofZ w8 _ (record { sfits = cold .signed82 .ok }) ∙ cold .signed82 .ensures)
     (late .number-at5 .ensures) (c .before .before .number-at6 .ensures) (c .before .number-at7 .ensures) refl
 
 pub monitor2-of-spec : {M : Type 1} → statement M

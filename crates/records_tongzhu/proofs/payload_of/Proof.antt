@@ -1,6 +1,9 @@
+-- `records_tongzhu::payload_of` meets its contract: each arm has the function's number, at which the definition computes to that arm's
+-- reading.
+-- Assumes nothing.
+use borrow.Author.Needs.{needs}
 use borrow.Author.Tests.{ne-eqb}
 use Rattle.records_tongzhu.specs.Replies.{payloadOf}
-use borrow.Author.Needs.{needs}
 use Rattle.records_tongzhu.proofs.payload_of.Statement.{statement}
 use Rattle.records_tongzhu.proofs.payload_of.Tie as tie
 
@@ -59,7 +62,16 @@ returns-5 c = rw (c .before .before .match .keys5, c .with-no-lists4 .ensures, c
 
 returns-6 : tie.Need-returns-6
 unfolding payloadOf
-returns-6 c = let n = c .before .match .rest in simp (ne-eqb _ _ (n .0 .0 .0 .0 .1), ne-eqb _ _ (n .0 .0 .0 .1), ne-eqb _ _ (n .0 .0 .1), ne-eqb _ _ (n .0 .1), ne-eqb _ _ (n .1), c .refused .ensures)
+returns-6 c =
+    let n = c .before .match .rest in
+    simp (
+      ne-eqb _ _ (n .0 .0 .0 .0 .1),
+      ne-eqb _ _ (n .0 .0 .0 .1),
+      ne-eqb _ _ (n .0 .0 .1),
+      ne-eqb _ _ (n .0 .1),
+      ne-eqb _ _ (n .1),
+      c .refused .ensures,
+    )
 
 pub payload-of-spec : {M : Type 1} → statement M
 payload-of-spec =

@@ -1,8 +1,10 @@
-use Rattle.records_tongzhu.specs.Replies.{doneOf}
-use mathlib.Core.Path.{_≡_, sym, ap, _∙_}
-use Rattle.records_tongzhu.proofs.Answers.{wrong-size, right-size, neither}
-use Rattle.records_tongzhu.specs.declared.Answer.the-variants as is
+-- `records_tongzhu::read_done` meets its contract: by the size of the payload, then by its byte.
+-- Assumes nothing.
+use mathlib.Core.Path.{sym, ap, _∙_}
 use borrow.Author.Needs.{needs}
+use Rattle.records_tongzhu.proofs.Answers.{wrong-size, right-size, neither}
+use Rattle.records_tongzhu.specs.Replies.{doneOf}
+use Rattle.records_tongzhu.specs.declared.Answer.the-variants as is
 use Rattle.records_tongzhu.proofs.read_done.Statement.{statement}
 use Rattle.records_tongzhu.proofs.read_done.Tie as tie
 

@@ -1,7 +1,9 @@
-use mathlib.Core.Path.{_≡_, ap, _∙_}
+-- `records_tongzhu::read_monitor2` meets its contract: by the size of the payload.
+-- Assumes nothing.
+use mathlib.Core.Path.{ap, _∙_}
+use borrow.Author.Needs.{needs}
 use Rattle.records_tongzhu.proofs.Answers.{wrong-size, right-size}
 use Rattle.records_tongzhu.specs.declared.Answer.the-variants as is
-use borrow.Author.Needs.{needs}
 use Rattle.records_tongzhu.proofs.read_monitor2.Statement.{statement}
 use Rattle.records_tongzhu.proofs.read_monitor2.Tie as tie
 

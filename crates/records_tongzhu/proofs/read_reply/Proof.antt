@@ -1,11 +1,14 @@
-use Rattle.records_tongzhu.proofs.Answers.{no-frame, whole-frame}
-use Rattle.frames_tongzhu.specs.declared.Frame.the-variants.{Whole}
-use Rattle.frames_tongzhu.specs.Reading.{frameOf}
-use Rattle.frames_tongzhu.proofs.Ladder.{whole-parts}
-use native.Mathlib.Omega.{arith}
-use Prim.Native.Nat.{ℕ}
+-- `records_tongzhu::read_reply` meets its contract: the frame's own refusal, or the answer that its payload is; the payload lies within the
+-- bytes by what a whole frame says.
+-- Assumes nothing.
 use mathlib.Core.Path.{_≡_, sym, _∙_}
+use Prim.Native.Nat.{ℕ}
+use native.Mathlib.Omega.{arith}
 use borrow.Author.Needs.{needs}
+use Rattle.frames_tongzhu.proofs.Ladder.{whole-parts}
+use Rattle.frames_tongzhu.specs.Reading.{frameOf}
+use Rattle.frames_tongzhu.specs.declared.Frame.the-variants.{Whole}
+use Rattle.records_tongzhu.proofs.Answers.{no-frame, whole-frame}
 use Rattle.records_tongzhu.proofs.read_reply.Statement.{statement}
 use Rattle.records_tongzhu.proofs.read_reply.Tie as tie
 
@@ -13,7 +16,8 @@ use Rattle.records_tongzhu.proofs.read_reply.Tie as tie
 abbrev Fields : tie.After-known-told2 → ℕ × (ℕ × (ℕ × Unit {0}))
 Fields c = c .before .f2 .given .0
 
-is-frame : (c : tie.After-known-told2) → Whole (Fields c .0) (Fields c .1 .0) (Fields c .1 .1 .0) ≡ frameOf (c .before .before .before .before .before .args .s .now)
+is-frame : (c : tie.After-known-told2)
+    → Whole (Fields c .0) (Fields c .1 .0) (Fields c .1 .1 .0) ≡ frameOf (c .before .before .before .before .before .args .s .now)
 is-frame c = sym (c .before .f2 .given .1) ∙ c .before .before .before .read-frame .ensures
 
 read-frame-requires : tie.Need-read-frame-requires
@@ -44,7 +48,9 @@ answer-to-requires : tie.Need-answer-to-requires
 answer-to-requires c κs = search needs
 
 returns : tie.Need-returns
-returns c = c .with-no-lists .ensures ∙ no-frame _ _ _ (sym (c .before .before .f .given .1) ∙ c .before .before .before .before .read-frame .ensures)
+returns c =
+    c .with-no-lists .ensures
+    ∙ no-frame _ _ _ (sym (c .before .before .f .given .1) ∙ c .before .before .before .before .read-frame .ensures)
 
 returns-2 : tie.Need-returns-2
 returns-2 c = c .answer-to .ensures ∙ whole-frame _ _ _ _ _ (is-frame (c .before .before))

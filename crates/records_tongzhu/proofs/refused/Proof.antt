@@ -1,3 +1,5 @@
+-- `records_tongzhu::refused` meets its contract: the refusal is what the call gives.
+-- Assumes nothing.
 use borrow.Author.Needs.{needs}
 use Rattle.records_tongzhu.proofs.refused.Statement.{statement}
 use Rattle.records_tongzhu.proofs.refused.Tie as tie

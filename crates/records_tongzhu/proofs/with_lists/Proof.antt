@@ -1,3 +1,5 @@
+-- `records_tongzhu::with_lists` meets its contract: by what was found.
+-- Assumes nothing.
 use borrow.Author.Needs.{needs}
 use Rattle.records_tongzhu.proofs.with_lists.Statement.{statement}
 use Rattle.records_tongzhu.proofs.with_lists.Tie as tie

@@ -1,3 +1,5 @@
+-- `records_tongzhu::with_no_lists` meets its contract: the lists are what the call gives.
+-- Assumes nothing.
 use borrow.Author.Needs.{needs}
 use Rattle.records_tongzhu.proofs.with_no_lists.Statement.{statement}
 use Rattle.records_tongzhu.proofs.with_no_lists.Tie as tie

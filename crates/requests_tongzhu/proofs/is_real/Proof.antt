@@ -1,4 +1,6 @@
-use mathlib.Core.Path.{_≡_, refl, sym, ap, _∙_}
+-- `requests_tongzhu::is_real` meets its contract: by the test of the date.
+-- Assumes nothing.
+use mathlib.Core.Path.{sym, _∙_}
 use borrow.Author.Needs.{needs}
 use Rattle.requests_tongzhu.proofs.is_real.Statement.{statement}
 use Rattle.requests_tongzhu.proofs.is_real.Tie as tie

@@ -1,7 +1,9 @@
-use Rattle.requests_tongzhu.proofs.Wires.{stored}
-use lib.ListN.{length-set}
+-- `requests_tongzhu::put_time` meets its contract: six stores write the part whole.
+-- Assumes nothing.
 use native.Mathlib.Omega.{arith}
 use borrow.Author.Needs.{needs}
+use lib.ListN.{length-set}
+use Rattle.requests_tongzhu.proofs.Wires.{stored}
 use Rattle.requests_tongzhu.proofs.put_time.Statement.{statement}
 use Rattle.requests_tongzhu.proofs.put_time.Tie as tie
 
@@ -47,7 +49,14 @@ same-length c = search needs
 returns : tie.Need-returns
 returns c =
     let start = c .before .before .before .before .before .before .before in
-    rw (c .before .before .before .before .before .to-bcd .ensures, c .before .before .before .before .to-bcd2 .ensures, c .before .before .before .to-bcd3 .ensures, c .before .before .to-bcd4 .ensures, c .before .to-bcd5 .ensures, c .to-bcd6 .ensures)
+    rw (
+      c .before .before .before .before .before .to-bcd .ensures,
+      c .before .before .before .before .to-bcd2 .ensures,
+      c .before .before .before .to-bcd3 .ensures,
+      c .before .before .to-bcd4 .ensures,
+      c .before .to-bcd5 .ensures,
+      c .to-bcd6 .ensures,
+    )
     (stored (start .args .t) (start .args .out .now) (start .pre))
 
 pub put-time-spec : {M : Type 1} → statement M

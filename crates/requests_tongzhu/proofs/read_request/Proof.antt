@@ -1,11 +1,14 @@
-use Rattle.requests_tongzhu.proofs.Parsing.{no-frame, whole-frame}
-use Rattle.frames_tongzhu.specs.declared.Frame.the-variants.{Whole}
-use Rattle.frames_tongzhu.specs.Reading.{frameOf}
-use Rattle.frames_tongzhu.proofs.Ladder.{whole-parts}
-use native.Mathlib.Omega.{arith}
+-- `requests_tongzhu::read_request` meets its contract: the frame's own refusal, or the request in its payload; the payload lies within the
+-- bytes by what a whole frame says.
+-- Assumes nothing.
+use mathlib.Core.Path.{_≡_, sym, _∙_}
 use Prim.Native.Nat.{ℕ}
-use mathlib.Core.Path.{_≡_, refl, sym, ap, _∙_}
+use native.Mathlib.Omega.{arith}
 use borrow.Author.Needs.{needs}
+use Rattle.frames_tongzhu.proofs.Ladder.{whole-parts}
+use Rattle.frames_tongzhu.specs.Reading.{frameOf}
+use Rattle.frames_tongzhu.specs.declared.Frame.the-variants.{Whole}
+use Rattle.requests_tongzhu.proofs.Parsing.{no-frame, whole-frame}
 use Rattle.requests_tongzhu.proofs.read_request.Statement.{statement}
 use Rattle.requests_tongzhu.proofs.read_request.Tie as tie
 
@@ -13,7 +16,8 @@ use Rattle.requests_tongzhu.proofs.read_request.Tie as tie
 abbrev Fields : tie.After-known-told2 → ℕ × (ℕ × (ℕ × Unit {0}))
 Fields c = c .before .f2 .given .0
 
-is-frame : (c : tie.After-known-told2) → Whole (Fields c .0) (Fields c .1 .0) (Fields c .1 .1 .0) ≡ frameOf (c .before .before .before .before .before .args .s .now)
+is-frame : (c : tie.After-known-told2)
+    → Whole (Fields c .0) (Fields c .1 .0) (Fields c .1 .1 .0) ≡ frameOf (c .before .before .before .before .before .args .s .now)
 is-frame c = sym (c .before .f2 .given .1) ∙ c .before .before .before .read-frame .ensures
 
 read-frame-requires : tie.Need-read-frame-requires

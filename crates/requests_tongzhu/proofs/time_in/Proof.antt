@@ -1,3 +1,5 @@
+-- `requests_tongzhu::time_in` meets its contract: the six numbers are what the calls give.
+-- Assumes nothing.
 use borrow.Author.Needs.{needs}
 use Rattle.requests_tongzhu.proofs.time_in.Statement.{statement}
 use Rattle.requests_tongzhu.proofs.time_in.Tie as tie
@@ -40,7 +42,14 @@ from-bcd-requires-6 c κs = search needs
 
 returns : tie.Need-returns
 returns c =
-    rw (c .before .before .before .before .before .before .before .before .before .before .from-bcd .ensures, c .before .before .before .before .before .before .before .before .from-bcd2 .ensures, c .before .before .before .before .before .before .from-bcd3 .ensures, c .before .before .before .before .from-bcd4 .ensures, c .before .before .from-bcd5 .ensures, c .from-bcd6 .ensures)
+    rw (
+      c .before .before .before .before .before .before .before .before .before .before .from-bcd .ensures,
+      c .before .before .before .before .before .before .before .before .from-bcd2 .ensures,
+      c .before .before .before .before .before .before .from-bcd3 .ensures,
+      c .before .before .before .before .from-bcd4 .ensures,
+      c .before .before .from-bcd5 .ensures,
+      c .from-bcd6 .ensures,
+    )
 
 pub time-in-spec : {M : Type 1} → statement M
 time-in-spec =

@@ -1,6 +1,8 @@
-use Rattle.requests_tongzhu.specs.Requests.{timeRequest}
-use mathlib.Core.Path.{_≡_, refl, sym, ap, _∙_}
+-- `requests_tongzhu::time_request` meets its contract: by the test of the time.
+-- Assumes nothing.
+use mathlib.Core.Path.{sym, _∙_}
 use borrow.Author.Needs.{needs}
+use Rattle.requests_tongzhu.specs.Requests.{timeRequest}
 use Rattle.requests_tongzhu.proofs.time_request.Statement.{statement}
 use Rattle.requests_tongzhu.proofs.time_request.Tie as tie
 

@@ -1,6 +1,8 @@
-use Rattle.requests_tongzhu.specs.Times.{plainOf}
+-- `requests_tongzhu::to_bcd` meets its contract: what `plain` makes of what the number is written as.
+-- Assumes nothing.
 use mathlib.Core.Path.{ap, _∙_}
 use borrow.Author.Needs.{needs}
+use Rattle.requests_tongzhu.specs.Times.{plainOf}
 use Rattle.requests_tongzhu.proofs.to_bcd.Statement.{statement}
 use Rattle.requests_tongzhu.proofs.to_bcd.Tie as tie
 

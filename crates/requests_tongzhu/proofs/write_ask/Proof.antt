@@ -1,11 +1,14 @@
-use Rattle.frames_tongzhu.specs.Writing.{sealed}
-use Rattle.requests_tongzhu.specs.Requests.{none}
+-- `requests_tongzhu::write_ask` meets its contract: by the kind of the function, then by the room; head and check around nothing make the
+-- frame.
+-- Assumes nothing.
+use mathlib.Core.List.{[]}
+use mathlib.Core.Path.{sym, ap, _∙_}
 use native.Mathlib.Omega.{arith}
-use mathlib.Core.List.{List, []}
+use borrow.Author.Needs.{needs}
+use Rattle.frames_tongzhu.specs.Writing.{sealed}
 use Rattle.frames_tongzhu.specs.declared.Kind.the-variants.{Reads, Sets, Unlisted}
 use Rattle.requests_tongzhu.proofs.Wires.{kept, crowded, framed, ask-wire, ask-room}
-use mathlib.Core.Path.{_≡_, refl, sym, ap, _∙_}
-use borrow.Author.Needs.{needs}
+use Rattle.requests_tongzhu.specs.Requests.{none}
 use Rattle.requests_tongzhu.proofs.write_ask.Statement.{statement}
 use Rattle.requests_tongzhu.proofs.write_ask.Tie as tie
 
@@ -21,7 +24,8 @@ refuse-requires c κs = search needs
 returns : tie.Need-returns
 returns c =
     let a = c .before .before .before .before .before .before .args in
-    let e = ask-wire (a .function) Reads (sym (c .before .before .enum-told .given .1) ∙ c .before .before .before .before .kind-of .ensures) in
+    let e = ask-wire (a .function) Reads
+    (sym (c .before .before .enum-told .given .1) ∙ c .before .before .before .before .kind-of .ensures) in
     crowded _ _ (a .function) [] e _ (c .refuse .ensures) (omega arith)
 
 begin-requires : tie.Need-begin-requires
@@ -51,17 +55,20 @@ returns-2 c =
     let told = began .before .before .before in
     let a = told .before .before .before .before .args in
     let e = ask-wire (a .function) Reads (sym (told .enum-told .given .1) ∙ told .before .before .kind-of .ensures) in
-    framed _ _ (a .function) [] e _ (omega arith) (c .before .before .seal .ensures ∙ ap (sealed 0) (began .begin .ensures) ∙ ask-room (a .function) (a .out .now) (omega arith))
+    framed _ _ (a .function) [] e _ (omega arith)
+    (c .before .before .seal .ensures ∙ ap (sealed 0) (began .begin .ensures) ∙ ask-room (a .function) (a .out .now) (omega arith))
 
 returns-3 : tie.Need-returns-3
 returns-3 c =
     let a = c .before .before .before .before .before .args in
-    kept _ _ _ (ap none (c .refuse2 .ensures) ∙ ask-wire (a .function) Sets (sym (c .before .enum-told2 .given .1) ∙ c .before .before .before .kind-of .ensures))
+    kept _ _ _ (ap none (c .refuse2 .ensures)
+    ∙ ask-wire (a .function) Sets (sym (c .before .enum-told2 .given .1) ∙ c .before .before .before .kind-of .ensures))
 
 returns-4 : tie.Need-returns-4
 returns-4 c =
     let a = c .before .before .before .before .before .args in
-    kept _ _ _ (ap none (c .refuse3 .ensures) ∙ ask-wire (a .function) Unlisted (sym (c .before .enum-told3 .given .1) ∙ c .before .before .before .kind-of .ensures))
+    kept _ _ _ (ap none (c .refuse3 .ensures)
+    ∙ ask-wire (a .function) Unlisted (sym (c .before .enum-told3 .given .1) ∙ c .before .before .before .kind-of .ensures))
 
 pub write-ask-spec : {M : Type 1} → statement M
 write-ask-spec =

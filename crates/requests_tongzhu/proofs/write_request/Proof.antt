@@ -1,3 +1,5 @@
+-- `requests_tongzhu::write_request` meets its contract: by the request.
+-- Assumes nothing.
 use borrow.Author.Needs.{needs}
 use Rattle.requests_tongzhu.proofs.write_request.Statement.{statement}
 use Rattle.requests_tongzhu.proofs.write_request.Tie as tie
