@@ -5,6 +5,7 @@ use checks::closes256;
 use refusals::Refusal;
 use refusals::refuse;
 ghost use mathlib.Core.Path.{_≡_};
+ghost use Rattle.refusals.specs.Refused.{refusedWith};
 ghost use Rattle.frames_tongzhu.specs.Functions.{kindOf};
 ghost use Rattle.frames_tongzhu.specs.Reading.{frameOf};
 ghost use Rattle.frames_tongzhu.specs.Writing.{begun, sealed};
@@ -46,24 +47,24 @@ pub fn read_frame(s: &[u8]) -> Frame
     ensures { λ r. ⌜ r ≡ frameOf (now (s .entry)) ⌝ }
 {
     if s.len() < 6 {
-        return Frame::Refused(refuse(refusals::SHORT));
+        return refused(refusals::SHORT);
     }
     if s[0] != 0x7F {
-        return Frame::Refused(refuse(refusals::FIRST_MARK));
+        return refused(refusals::FIRST_MARK);
     }
     let declared = wide(s[3]);
     if s.len() != declared {
-        return Frame::Refused(refuse(refusals::LENGTH));
+        return refused(refusals::LENGTH);
     }
     let last = s.len() - 1;
     if !closes256(&s[0..last], s[last]) {
-        return Frame::Refused(refuse(refusals::CHECKSUM));
+        return refused(refusals::CHECKSUM);
     }
     if s[1] != 0x10 {
-        return Frame::Refused(refuse(refusals::ADDRESS));
+        return refused(refusals::ADDRESS);
     }
     if s[2] != 0x02 {
-        return Frame::Refused(refuse(refusals::ADDRESS));
+        return refused(refusals::ADDRESS);
     }
     Frame::Whole {
         function: s[4],
@@ -97,6 +98,12 @@ pub fn seal(len: usize, out: &mut [u8])
             out[len + 5] = check;
         }
     }
+}
+
+fn refused(number: u8) -> Frame
+    ensures { λ r. ⌜ r ≡ Frame.Refused (refusedWith number) ⌝ }
+{
+    Frame::Refused(refuse(number))
 }
 
 // A byte as a count.

@@ -10,7 +10,7 @@ use lib.ListN.{length, getD}
 use Rattle.checks.specs.Sums.{total, closes}
 use Rattle.frames_tongzhu.proofs.Ladder.{part-checked, too-short, wrong-mark, wrong-length, wrong-check, wrong-address, wrong-version, whole}
 use Rattle.frames_tongzhu.specs.Reading.{checked, check}
-use Rattle.frames_tongzhu.specs.declared.Frame.the-variants.{Whole, Refused}
+use Rattle.frames_tongzhu.specs.declared.Frame.the-variants.{Whole}
 use Rattle.frames_tongzhu.proofs.read_frame.Statement.{statement}
 use Rattle.frames_tongzhu.proofs.read_frame.Tie as tie
 
@@ -24,20 +24,20 @@ declared c = omega arith
 sums : (c : tie.After-closes256) → c .closes256 .result ≡ closes 256 (total (checked (place c))) (check (place c))
 sums c = c .closes256 .ensures ∙ ap (λ (l : List ℕ). closes 256 (total l) (check (place c))) (part-checked (place c))
 
-refuse-requires : tie.Need-refuse-requires
-refuse-requires c κs = search needs
+refused-requires : tie.Need-refused-requires
+refused-requires c κs = search needs
 
 returns : tie.Need-returns
-returns c = ap Refused (c .refuse .ensures) ∙ too-short _ (search needs)
+returns c = c .refused .ensures ∙ too-short _ (search needs)
 
 shared-slice-read-if2 : tie.Need-shared-slice-read-if2
 shared-slice-read-if2 c = search needs
 
-refuse-requires-2 : tie.Need-refuse-requires-2
-refuse-requires-2 c κs = search needs
+refused-requires-2 : tie.Need-refused-requires-2
+refused-requires-2 c κs = search needs
 
 returns-2 : tie.Need-returns-2
-returns-2 c = ap Refused (c .refuse2 .ensures) ∙ wrong-mark _ (search needs) (search needs)
+returns-2 c = c .refused2 .ensures ∙ wrong-mark _ (search needs) (search needs)
 
 shared-slice-read-wide : tie.Need-shared-slice-read-wide
 shared-slice-read-wide c = search needs
@@ -45,13 +45,13 @@ shared-slice-read-wide c = search needs
 wide-requires : tie.Need-wide-requires
 wide-requires c κs = search needs
 
-refuse-requires-3 : tie.Need-refuse-requires-3
-refuse-requires-3 c κs = search needs
+refused-requires-3 : tie.Need-refused-requires-3
+refused-requires-3 c κs = search needs
 
 returns-3 : tie.Need-returns-3
 returns-3 c =
     let e = c .before .before .wide .ensures in
-    ap Refused (c .refuse3 .ensures) ∙ wrong-length _ (search needs) (search needs) (λ h. c .before .if3 .taken (h ∙ sym e))
+    c .refused3 .ensures ∙ wrong-length _ (search needs) (search needs) (λ h. c .before .if3 .taken (h ∙ sym e))
 
 sub-last : tie.Need-sub-last
 sub-last c = search needs
@@ -71,43 +71,43 @@ shared-slice-read-closes256 c = search needs
 closes256-requires : tie.Need-closes256-requires
 closes256-requires c κs = search needs
 
-refuse-requires-4 : tie.Need-refuse-requires-4
-refuse-requires-4 c κs = search needs
+refused-requires-4 : tie.Need-refused-requires-4
+refused-requires-4 c κs = search needs
 
 returns-4 : tie.Need-returns-4
 returns-4 c =
     let closed = c .before .before in
-    ap Refused (c .refuse4 .ensures)
+    c .refused4 .ensures
     ∙ wrong-check _ (search needs) (search needs) (declared closed) (sym (sums closed) ∙ not-true _ (c .before .if4 .taken))
 
 shared-slice-read-if5 : tie.Need-shared-slice-read-if5
 shared-slice-read-if5 c = search needs
 
-refuse-requires-5 : tie.Need-refuse-requires-5
-refuse-requires-5 c κs = search needs
+refused-requires-5 : tie.Need-refused-requires-5
+refused-requires-5 c κs = search needs
 
 returns-5 : tie.Need-returns-5
 returns-5 c =
     let closed = c .before .before .before .before in
-    ap Refused (c .refuse5 .ensures)
+    c .refused5 .ensures
     ∙ wrong-address _ (search needs) (search needs) (declared closed)
     (sym (sums closed) ∙ not-false _ (c .before .before .before .if4 .left)) (search needs)
 
 shared-slice-read-if6 : tie.Need-shared-slice-read-if6
 shared-slice-read-if6 c = search needs
 
-refuse-requires-6 : tie.Need-refuse-requires-6
-refuse-requires-6 c κs = search needs
+refused-requires-6 : tie.Need-refused-requires-6
+refused-requires-6 c κs = search needs
 
 returns-6 : tie.Need-returns-6
 returns-6 c =
     let closed = c .before .before .before .before .before .before in
-    ap Refused (c .refuse6 .ensures)
+    c .refused6 .ensures
     ∙ wrong-version _ (search needs) (search needs) (declared closed)
     (sym (sums closed) ∙ not-false _ (c .before .before .before .before .before .if4 .left)) (search needs) (search needs)
 
-shared-slice-read-t8 : tie.Need-shared-slice-read-t8
-shared-slice-read-t8 c = search needs
+shared-slice-read-t7 : tie.Need-shared-slice-read-t7
+shared-slice-read-t7 c = search needs
 
 sub-t4 : tie.Need-sub-t4
 sub-t4 c = search needs
@@ -125,14 +125,14 @@ pub read-frame-spec : {M : Type 1} → statement M
 read-frame-spec =
     tie.close
     (tie.spec
-    refuse-requires
+    refused-requires
     returns
     shared-slice-read-if2
-    refuse-requires-2
+    refused-requires-2
     returns-2
     shared-slice-read-wide
     wide-requires
-    refuse-requires-3
+    refused-requires-3
     returns-3
     sub-last
     sub-closes256
@@ -140,14 +140,14 @@ read-frame-spec =
     part-closes256-end
     shared-slice-read-closes256
     closes256-requires
-    refuse-requires-4
+    refused-requires-4
     returns-4
     shared-slice-read-if5
-    refuse-requires-5
+    refused-requires-5
     returns-5
     shared-slice-read-if6
-    refuse-requires-6
+    refused-requires-6
     returns-6
-    shared-slice-read-t8
+    shared-slice-read-t7
     sub-t4
     returns-7)
