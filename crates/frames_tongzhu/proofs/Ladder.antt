@@ -1,13 +1,14 @@
 -- The ways out of `frameOf`, each from the facts that the reader has there, and what a whole frame says of its bytes.
 -- Each way rewrites the ladder with its tests; the inversion goes down the ladder past each refusal. Assumes nothing.
-use mathlib.Core.Path.{_≡_}
-use mathlib.Core.Bool.{true, false, _&&_}
+use mathlib.Core.Path.{_≡_, refl, sym, _∙_}
+use mathlib.Core.Bool.{Bool, true, false, _&&_}
 use mathlib.Core.List.{List}
 use Prim.Native.Nat.{ℕ, _+_, _-_, _<_, _≤_}
 use native.Mathlib.Omega.{arith}
-use borrow.Author.Tests.{lt-ltb, le-ltb, eq-eqb, ne-eqb, ltb-false, eqb-true}
+use borrow.Author.Tests.{lt-ltb, le-ltb, eq-eqb, ne-eqb, ltb-false, eqb-true, eqb-false}
 use lib.Dec.{ltb, eqb}
 use lib.ListN.{length, getD, take, drop}
+use lib.Seq.{getD-take, length-take-le}
 use Rattle.laws.proofs.Ladders.{past, into, both}
 use Rattle.refusals.specs.declared.Refusal.{Refusal}
 use Rattle.refusals.specs.Refused.{refusedWith, short, firstMark, lengths, checksum, address}
@@ -53,6 +54,27 @@ module _ (s : List ℕ) (long : 6 ≤ length s) where
           unfolding frameOf
           whole h =
               simp (le-ltb _ _ long, eq-eqb _ _ mark, eq-eqb _ _ declared, closed, eq-eqb _ _ home, eq-eqb _ _ h)
+
+-- ---- more bytes than a frame can have
+
+-- of an input over 255 bytes the first 256 are refused as the whole is: for the mark, or for a LEN that no byte can be
+pub long-input : (s : List ℕ) → 256 ≤ length s → getD s 3 0 < 256 → frameOf (take 256 s) ≡ frameOf s
+long-input s long byte = go (eqb (getD s 0 0) 0x7F) refl
+  where
+    front : (i : ℕ) → i < 256 → getD (take 256 s) i 0 ≡ getD s i 0
+    front i h = getD-take 256 s i 0 h
+
+    go : (b : Bool) → eqb (getD s 0 0) 0x7F ≡ b → frameOf (take 256 s) ≡ frameOf s
+    go true e =
+        let mark : getD s 0 0 ≡ 0x7F = eqb-true _ _ e in
+        let size = length-take-le 256 s long in
+        let len = front 3 (omega arith) in
+        sym (wrong-length (take 256 s) (omega arith) (front 0 (omega arith) ∙ mark) (λ h. omega arith))
+        ∙ wrong-length s (omega arith) mark (λ h. omega arith)
+    go false e =
+        let other = eqb-false (getD s 0 0) 0x7F e in
+        let size = length-take-le 256 s long in
+        sym (wrong-mark (take 256 s) (omega arith) (λ h. other (sym (front 0 (omega arith)) ∙ h))) ∙ wrong-mark s (omega arith) other
 
 -- ---- what a whole frame says of its bytes
 
