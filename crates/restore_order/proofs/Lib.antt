@@ -1,0 +1,5 @@
+pub mod Integers
+pub mod Members
+pub mod Agreement
+pub mod Ordering
+pub mod Counts
