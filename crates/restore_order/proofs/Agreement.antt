@@ -7,7 +7,7 @@ use Prim.Native.Nat.{ℕ, _<_}
 use lib.IntN.{ℤ}
 use lib.Dec.{eqb}
 use lib.ListN.{length, set}
-use borrow.Author.Tests.{eqb-true}
+use borrow.Author.Tests.{eqb-true, ne-eqb}
 use Rattle.restore_order.specs.Slots.{Slot, alone, pair, at, writes, sides, isIn, put}
 use Rattle.restore_order.proofs.Integers.{at-same, at-other}
 use Rattle.restore_order.proofs.Members.{two, in-here, in-later, in-upper, in-lower, in-beyond}
@@ -37,7 +37,7 @@ module _ (p q : List ℤ) where
 
 -- a store to a place that is no setting of the slots is not seen there
 pub store-outside : (s : List Slot) (p : List ℤ) (r : ℕ) (v : ℤ) → isIn r s ≡ false → Agree s (set p r v) p
-store-outside s p r v out n i = at-other p r v n (two s r n out i)
+store-outside s p r v out n i = at-other p r v n (ne-eqb r n (two s r n out i))
 
 -- one register written in both
 pub put-in-both : (s : List Slot) (p q w : List ℤ) (r : ℕ) → r < length p → r < length q → Agree s p q → Agree s (put p w r) (put q w r)
