@@ -6,6 +6,7 @@ use numbers::number16;
 use refusals::Refusal;
 use refusals::refuse;
 ghost use mathlib.Core.Path.{_≡_};
+ghost use Prim.Native.Nat.{_<_};
 ghost use lib.ListN.{length};
 ghost use Rattle.refusals.specs.Refused.{refusedWith};
 ghost use Rattle.frames_pathfinder.specs.Reading.{frameOf};
@@ -94,7 +95,7 @@ fn refused(number: u8) -> Frame
 
 // A byte as a count.
 fn wide(b: u8) -> usize
-    ensures { λ r. ⌜ r ≡ b ⌝ }
+    ensures { λ r. ⌜ (r ≡ b) × (r < 256) ⌝ }
 {
     b as usize
 }

@@ -1,48 +1,41 @@
+-- `frames_pathfinder::begin` meets its contract: three stores, or nothing where the frame does not fit.
+-- Assumes nothing.
+use native.Mathlib.Omega.{arith}
+use lib.ListN.{length-set}
+use Rattle.frames_pathfinder.proofs.Writers.{begun-is, begin-nothing, too-long, no-room}
 use borrow.Author.Needs.{needs}
 use Rattle.frames_pathfinder.proofs.begin.Statement.{statement}
 use Rattle.frames_pathfinder.proofs.begin.Tie as tie
-use Rattle.frames_pathfinder.proofs.begin.Reads as reads
-use Rattle.frames_pathfinder.proofs.begin.Lts as lts
 
--- src/lib.rt:59:12
 add-if2 : tie.Need-add-if2
 add-if2 c = search needs
 
--- src/lib.rt:60:13
 slice-write-out : tie.Need-slice-write-out
 slice-write-out c = search needs
 
--- src/lib.rt:61:23
 add-out : tie.Need-add-out
 add-out c = search needs
 
--- src/lib.rt:61:22
 cast-out : tie.Need-cast-out
 cast-out c = search needs
 
--- src/lib.rt:61:13
 slice-write-out-2 : tie.Need-slice-write-out-2
-slice-write-out-2 c = ?
+slice-write-out-2 c = simp length-set (omega arith)
 
--- src/lib.rt:62:13
 slice-write-out-3 : tie.Need-slice-write-out-3
-slice-write-out-3 c = ?
+slice-write-out-3 c = simp length-set (omega arith)
 
--- src/lib.rt:55:1
 same-length : tie.Need-same-length
 same-length c = search needs
 
--- src/lib.rt:55:1
 returns : tie.Need-returns
-returns c = ?
+returns c = let a = c .before .before .args in begun-is (a .len) (a .out .now) (omega arith) (omega arith) (a .opcode)
 
--- src/lib.rt:55:1
 returns-2 : tie.Need-returns-2
-returns-2 c = ?
+returns-2 c = let a = c .before .before .args in begin-nothing (a .len) (a .out .now) (a .opcode) (no-room (a .len) (a .out .now) (omega arith) (omega arith))
 
--- src/lib.rt:55:1
 returns-3 : tie.Need-returns-3
-returns-3 c = ?
+returns-3 c = let a = c .before .args in begin-nothing (a .len) (a .out .now) (a .opcode) (too-long (a .len) (a .out .now) (omega arith))
 
 pub begin-spec : {M : Type 1} → statement M
 begin-spec =

@@ -1,128 +1,106 @@
+-- `frames_pathfinder::read_frame` meets its contract: each way out is a law of the ladder, with the declared length as `wide` gives it.
+-- Assumes nothing.
+use Rattle.frames_pathfinder.proofs.Ladder.{too-short, wrong-start, wrong-length, wrong-end, wrong-sum, whole}
+use mathlib.Core.Path.{_∙_}
 use borrow.Author.Needs.{needs}
 use Rattle.frames_pathfinder.proofs.read_frame.Statement.{statement}
 use Rattle.frames_pathfinder.proofs.read_frame.Tie as tie
-use Rattle.frames_pathfinder.proofs.read_frame.Reads as reads
-use Rattle.frames_pathfinder.proofs.read_frame.Lts as lts
-use Rattle.checks.proofs.crc16.Reads as crc16-reads
-use Rattle.frames_pathfinder.proofs.refused.Reads as refused-reads
-use Rattle.frames_pathfinder.proofs.wide.Reads as wide-reads
-use Rattle.numbers.proofs.number16.Reads as number16-reads
 
--- src/lib.rt:30:9
 refused-requires : tie.Need-refused-requires
 refused-requires c κs = search needs
 
--- src/lib.rt:30:9
 returns : tie.Need-returns
-returns c = ?
+returns c = c .refused .ensures ∙ too-short _ (search needs)
 
--- src/lib.rt:32:8
 shared-slice-read-if2 : tie.Need-shared-slice-read-if2
 shared-slice-read-if2 c = search needs
 
--- src/lib.rt:33:9
 refused-requires-2 : tie.Need-refused-requires-2
 refused-requires-2 c κs = search needs
 
--- src/lib.rt:33:9
 returns-2 : tie.Need-returns-2
-returns-2 c = ?
+returns-2 c = c .refused2 .ensures ∙ wrong-start _ (search needs) (search needs)
 
--- src/lib.rt:35:18
 shared-slice-read-wide : tie.Need-shared-slice-read-wide
 shared-slice-read-wide c = search needs
 
--- src/lib.rt:35:9
 wide-requires : tie.Need-wide-requires
 wide-requires c κs = search needs
 
--- src/lib.rt:36:19
 add-if3 : tie.Need-add-if3
-add-if3 c = ?
+add-if3 c = search needs
 
--- src/lib.rt:37:9
 refused-requires-3 : tie.Need-refused-requires-3
 refused-requires-3 c κs = search needs
 
--- src/lib.rt:37:9
 returns-3 : tie.Need-returns-3
-returns-3 c = ?
+returns-3 c = let n = c .before .before .wide in c .refused3 .ensures ∙ wrong-length _ (search needs) (search needs) (n .result) (n .ensures .0) (c .before .if3 .taken)
 
--- src/lib.rt:39:10
 add-if4 : tie.Need-add-if4
 add-if4 c = search needs
 
--- src/lib.rt:39:8
 shared-slice-read-if4 : tie.Need-shared-slice-read-if4
 shared-slice-read-if4 c = search needs
 
--- src/lib.rt:40:9
 refused-requires-4 : tie.Need-refused-requires-4
 refused-requires-4 c κs = search needs
 
--- src/lib.rt:40:9
 returns-4 : tie.Need-returns-4
-returns-4 c = ?
+returns-4 c = let n = c .before .before .before .before .wide in c .refused4 .ensures ∙ wrong-end _ (search needs) (search needs) (n .result) (n .ensures .0) (search needs) (c .before .if4 .taken)
 
--- src/lib.rt:42:27
 add-crc16 : tie.Need-add-crc16
 add-crc16 c = search needs
 
--- src/lib.rt:42:21
 sub-crc16 : tie.Need-sub-crc16
 sub-crc16 c = search needs
 
--- src/lib.rt:42:21
 part-crc16-start : tie.Need-part-crc16-start
 part-crc16-start c = search needs
 
--- src/lib.rt:42:21
 part-crc16-end : tie.Need-part-crc16-end
 part-crc16-end c = search needs
 
--- src/lib.rt:42:9
 crc16-requires : tie.Need-crc16-requires
 crc16-requires c κs = search needs
 
--- src/lib.rt:43:46
 add-number16 : tie.Need-add-number16
 add-number16 c = search needs
 
--- src/lib.rt:43:44
 shared-slice-read-number16 : tie.Need-shared-slice-read-number16
 shared-slice-read-number16 c = search needs
 
--- src/lib.rt:43:56
 add-number16-2 : tie.Need-add-number16-2
 add-number16-2 c = search needs
 
--- src/lib.rt:43:54
 shared-slice-read-number16-2 : tie.Need-shared-slice-read-number16-2
 shared-slice-read-number16-2 c = search needs
 
--- src/lib.rt:43:9
 number16-requires : tie.Need-number16-requires
 number16-requires c κs = search needs
 
--- src/lib.rt:45:9
 refused-requires-5 : tie.Need-refused-requires-5
 refused-requires-5 c κs = search needs
 
--- src/lib.rt:45:9
 returns-5 : tie.Need-returns-5
-returns-5 c = ?
+returns-5 c =
+    let told = c .before .before .number16 in
+    let summed = c .before .before .before .before .before in
+    let n = summed .before .before .before .before .before .wide in
+    c .refused5 .ensures
+    ∙ wrong-sum _ (search needs) (search needs) (n .result) (n .ensures .0) (search needs) (search needs) (summed .crc16 .result) (told .result) (summed .crc16 .ensures) (told .ensures) (c .before .if5 .taken)
 
--- src/lib.rt:48:17
 shared-slice-read-t18 : tie.Need-shared-slice-read-t18
 shared-slice-read-t18 c = search needs
 
--- src/lib.rt:50:14
 sub-t10 : tie.Need-sub-t10
 sub-t10 c = search needs
 
--- src/lib.rt:26:1
 returns-6 : tie.Need-returns-6
-returns-6 c = ?
+returns-6 c =
+    let told = c .before .before .number16 in
+    let summed = c .before .before .before .before .before in
+    let n = summed .before .before .before .before .before .wide in
+    whole _ (search needs) (search needs) (n .result) (n .ensures .0) (search needs) (search needs) (summed .crc16 .result) (told .result) (summed .crc16 .ensures) (told .ensures) (c .before .if5 .left)
 
 pub read-frame-spec : {M : Type 1} → statement M
 read-frame-spec =

@@ -1,74 +1,61 @@
+-- `frames_pathfinder::seal` meets its contract: the part for checksum and end mark comes back written, or nothing changes.
+-- Assumes nothing.
+use native.Mathlib.Omega.{arith}
+use Rattle.frames_pathfinder.proofs.Writers.{sealed-is, seal-nothing, too-long, no-room}
 use borrow.Author.Needs.{needs}
 use Rattle.frames_pathfinder.proofs.seal.Statement.{statement}
 use Rattle.frames_pathfinder.proofs.seal.Tie as tie
-use Rattle.frames_pathfinder.proofs.seal.Reads as reads
-use Rattle.frames_pathfinder.proofs.seal.Lts as lts
-use Rattle.checks.proofs.crc16.Reads as crc16-reads
-use Rattle.frames_pathfinder.proofs.put_end.Reads as put-end-reads
 
--- src/lib.rt:72:12
 add-if2 : tie.Need-add-if2
 add-if2 c = search needs
 
--- src/lib.rt:73:37
 add-crc16 : tie.Need-add-crc16
 add-crc16 c = search needs
 
--- src/lib.rt:73:29
 sub-crc16 : tie.Need-sub-crc16
 sub-crc16 c = search needs
 
--- src/lib.rt:73:29
 part-crc16-start : tie.Need-part-crc16-start
 part-crc16-start c = search needs
 
--- src/lib.rt:73:29
 part-crc16-end : tie.Need-part-crc16-end
 part-crc16-end c = search needs
 
--- src/lib.rt:73:17
 crc16-requires : tie.Need-crc16-requires
 crc16-requires c κs = search needs
 
--- src/lib.rt:74:35
 add-put-end : tie.Need-add-put-end
 add-put-end c = search needs
 
--- src/lib.rt:74:44
 add-put-end-2 : tie.Need-add-put-end-2
 add-put-end-2 c = search needs
 
--- src/lib.rt:74:26
 sub-put-end : tie.Need-sub-put-end
 sub-put-end c = search needs
 
--- src/lib.rt:74:26
 part-put-end-start : tie.Need-part-put-end-start
 part-put-end-start c = search needs
 
--- src/lib.rt:74:26
 part-put-end-end : tie.Need-part-put-end-end
 part-put-end-end c = search needs
 
--- src/lib.rt:74:13
 put-end-requires : tie.Need-put-end-requires
 put-end-requires c κs = search needs
 
--- src/lib.rt:68:1
 same-length : tie.Need-same-length
 same-length c = search needs
 
--- src/lib.rt:68:1
 returns : tie.Need-returns
-returns c = ?
+returns c =
+    let summed = c .before .before .before .before in
+    let a = c .before .before .before .before .before .before .before .before .before .before .args in
+    sealed-is (a .len) (a .out .now) (omega arith) (omega arith) (summed .crc16 .result) _ (summed .crc16 .ensures) (c .before .before .put-end .ensures)
 
--- src/lib.rt:68:1
 returns-2 : tie.Need-returns-2
-returns-2 c = ?
+returns-2 c = let a = c .before .before .before .args in seal-nothing (a .len) (a .out .now) (no-room (a .len) (a .out .now) (omega arith) (omega arith))
 
--- src/lib.rt:68:1
 returns-3 : tie.Need-returns-3
-returns-3 c = ?
+returns-3 c = let a = c .before .before .args in seal-nothing (a .len) (a .out .now) (too-long (a .len) (a .out .now) (omega arith))
 
 pub seal-spec : {M : Type 1} → statement M
 seal-spec =

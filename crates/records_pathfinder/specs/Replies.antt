@@ -1,0 +1,94 @@
+-- What reading a Pathfinder reply finds, and what it leaves in the lent row and bytes (01, Pathfinder and Refusal numbers).
+-- After the frame's own refusals the order is 7, 8, 11. Assumes nothing.
+use Prim.Native.Nat.{ℕ, _-_, _*_}
+use mathlib.Core.Bool.{Bool, _||_, _&&_}
+use mathlib.Core.List.{List, _++_}
+use lib.IntN.{ℤ}
+use lib.ListN.{length, take, drop}
+use lib.Dec.{ltb, leb, eqb}
+use Rattle.laws.specs.Choice.{pick}
+use Rattle.refusals.specs.Refused.{refusedWith, request, shape, room}
+use Rattle.frames_pathfinder.specs.declared.Frame.{Frame}
+use Rattle.frames_pathfinder.specs.declared.Frame.the-variants.{Whole, Refused as NoFrame}
+use Rattle.frames_pathfinder.specs.Reading.{frameOf}
+use Rattle.records_pathfinder.specs.Words.{words}
+use Rattle.records_pathfinder.specs.declared.Kind.{Kind}
+use Rattle.records_pathfinder.specs.declared.Kind.the-variants.{Failure as Fails, Listed, Other}
+use Rattle.records_pathfinder.specs.declared.Shape.{Shape}
+use Rattle.records_pathfinder.specs.declared.Shape.the-variants.{Words as HasWords, Name as HasName, Nothing, Unlisted}
+use Rattle.records_pathfinder.specs.declared.Reply.{Reply}
+use Rattle.records_pathfinder.specs.declared.Reply.the-variants.{Words, Name, Written, Failure, Refused}
+
+-- the failure opcodes: 20 to 24, 26, 27 and 2D
+abbrev pub isFailure : ℕ → Bool
+isFailure op = (leb 0x20 op && leb op 0x24) || ((leb 0x26 op && leb op 0x27) || eqb op 0x2D)
+
+-- the opcodes of listed requests: 01 to 05 and 0E
+abbrev pub isListed : ℕ → Bool
+isListed op = (leb 0x01 op && leb op 0x05) || eqb op 0x0E
+
+unfoldable pub kindOf : ℕ → Kind
+kindOf op = pick (isFailure op) Fails (pick (isListed op) Listed Other)
+
+-- 01 three words, 02 fifty, 03 fifty-three, 04 sixteen, 05 a name, 0E nothing
+unfoldable pub shapeOf : ℕ → Shape
+shapeOf asked =
+    pick (eqb asked 0x01) (HasWords 3)
+    (pick (eqb asked 0x02) (HasWords 50)
+    (pick (eqb asked 0x03) (HasWords 53)
+    (pick (eqb asked 0x04) (HasWords 16) (pick (eqb asked 0x05) HasName (pick (eqb asked 0x0E) Nothing Unlisted)))))
+
+-- n words in data of so many bytes, with room for so many words
+unfoldable pub wordsJudged : ℕ → ℕ → ℕ → Reply
+wordsJudged n len places =
+    pick (eqb len (4 * n)) (pick (ltb places n) (Refused (refusedWith room)) (Words n)) (Refused (refusedWith shape))
+
+-- the asked reply
+abbrev pub shaped : Shape → ℕ → ℕ → ℕ → Reply
+shaped (HasWords n) len places bytes = wordsJudged n len places
+shaped HasName len places bytes = pick (ltb bytes len) (Refused (refusedWith room)) (Name len)
+shaped Nothing len places bytes = pick (eqb len 0) Written (Refused (refusedWith shape))
+shaped Unlisted len places bytes = Refused (refusedWith request)
+
+-- a whole frame by its opcode: a failure has no data; another opcode than the one asked is refused
+abbrev pub byKind : Kind → ℕ → ℕ → ℕ → Reply → Reply
+byKind Fails asked op len answer = pick (eqb len 0) (Failure op) (Refused (refusedWith shape))
+byKind Listed asked op len answer = pick (eqb op asked) answer (Refused (refusedWith request))
+byKind Other asked op len answer = Refused (refusedWith request)
+
+-- a request that is not listed comes before any failure
+abbrev pub byShape : Shape → ℕ → ℕ → ℕ → ℕ → ℕ → Reply
+byShape (HasWords n) asked op len places bytes = byKind (kindOf op) asked op len (shaped (HasWords n) len places bytes)
+byShape HasName asked op len places bytes = byKind (kindOf op) asked op len (shaped HasName len places bytes)
+byShape Nothing asked op len places bytes = byKind (kindOf op) asked op len (shaped Nothing len places bytes)
+byShape Unlisted asked op len places bytes = Refused (refusedWith request)
+
+unfoldable pub judged : ℕ → ℕ → ℕ → ℕ → ℕ → Reply
+judged asked op len places bytes = byShape (shapeOf asked) asked op len places bytes
+
+abbrev pub ofFrame : ℕ → ℕ → ℕ → Frame → Reply
+ofFrame asked places bytes (NoFrame r) = Refused r
+ofFrame asked places bytes (Whole op start len) = judged asked op len places bytes
+
+unfoldable pub replyOf : ℕ → ℕ → ℕ → List ℕ → Reply
+replyOf asked places bytes s = ofFrame asked places bytes (frameOf s)
+
+-- the data of a whole frame
+abbrev pub payloadOf : List ℕ → List ℕ
+payloadOf s = take (length s - 6) (drop 3 s)
+
+-- the row after: the words in front of what was there past them; on any other answer as it was
+abbrev pub rowAfter : Reply → List ℕ → List ℤ → List ℤ
+rowAfter (Words n) s row = words n (payloadOf s) ++ drop n row
+rowAfter (Name n) s row = row
+rowAfter Written s row = row
+rowAfter (Failure code) s row = row
+rowAfter (Refused r) s row = row
+
+-- the bytes after: the name in front of what was there past it; on any other answer as they were
+abbrev pub nameAfter : Reply → List ℕ → List ℕ → List ℕ
+nameAfter (Words n) s name = name
+nameAfter (Name n) s name = payloadOf s ++ drop n name
+nameAfter Written s name = name
+nameAfter (Failure code) s name = name
+nameAfter (Refused r) s name = name

@@ -1,0 +1,192 @@
+// Pathfinder replies (000, Opcode Details; 01, Pathfinder): words into a lent row, a name into lent bytes, an acknowledgement, or the
+// device's own failure.
+use frames_pathfinder::Frame;
+use frames_pathfinder::read_frame;
+use numbers::Order;
+use numbers::number32;
+use numbers::signed32;
+use refusals::Refusal;
+use refusals::refuse;
+ghost use mathlib.Core.Path.{_≡_};
+ghost use mathlib.Core.List.{_++_};
+ghost use Prim.Native.Nat.{_*_, _≤_};
+ghost use lib.ListN.{length, drop};
+ghost use Rattle.refusals.specs.Refused.{refusedWith};
+ghost use Rattle.records_pathfinder.specs.Words.{wordOf, words};
+ghost use Rattle.records_pathfinder.specs.Replies.{kindOf, shapeOf, wordsJudged, shaped, judged, replyOf, rowAfter, nameAfter};
+
+// What an opcode is in a reply.
+pub enum Kind {
+    Failure,
+    Listed,
+    Other,
+}
+
+// What the reply to a request holds.
+pub enum Shape {
+    Words(usize),
+    Name,
+    Nothing,
+    // There is no such request.
+    Unlisted,
+}
+
+// What a reply says.
+pub enum Reply {
+    // So many words stand at the front of the row.
+    Words(usize),
+    // So many bytes of a name stand at the front of the lent bytes.
+    Name(usize),
+    // Register written.
+    Written,
+    // The device failed, with its own code.
+    Failure(u8),
+    Refused(Refusal),
+}
+
+// Reads the reply to the request `asked`. Places of `row` and `name` past what is written keep their contents.
+pub fn read_reply(asked: u8, s: &[u8], row: &mut [i32], name: &mut [u8]) -> Reply
+    ensures answer { λ r. ⌜ r ≡ replyOf asked (length (now (row .entry))) (length (now (name .entry))) (now (s .entry)) ⌝ }
+    ensures filled { λ r. ⌜ now (row .exit) ≡ rowAfter r (now (s .entry)) (now (row .entry)) ⌝ }
+    ensures copied { λ r. ⌜ now (name .exit) ≡ nameAfter r (now (s .entry)) (now (name .entry)) ⌝ }
+{
+    let f = read_frame(s);
+    match f {
+        Frame::Refused(r) => Reply::Refused(r),
+        Frame::Whole { opcode, start, len } => {
+            let v = judge(asked, opcode, len, row.len(), name.len());
+            match v {
+                Reply::Words(n) => {
+                    fill(&s[start..start + len], row, n);
+                    Reply::Words(n)
+                }
+                Reply::Name(n) => {
+                    bytes::copy(&s[start..start + len], name);
+                    Reply::Name(n)
+                }
+                Reply::Written => Reply::Written,
+                Reply::Failure(code) => Reply::Failure(code),
+                Reply::Refused(r) => Reply::Refused(r),
+            }
+        }
+    }
+}
+
+// Sorts the opcodes of replies.
+pub fn kind_of(opcode: u8) -> Kind
+    ensures { λ r. ⌜ r ≡ kindOf opcode ⌝ }
+{
+    match opcode {
+        0x20..=0x24 | 0x26 | 0x27 | 0x2D => Kind::Failure,
+        0x01..=0x05 | 0x0E => Kind::Listed,
+        _ => Kind::Other,
+    }
+}
+
+// What the reply to a request holds.
+pub fn shape_of(asked: u8) -> Shape
+    ensures { λ r. ⌜ r ≡ shapeOf asked ⌝ }
+{
+    match asked {
+        0x01 => Shape::Words(3),
+        0x02 => Shape::Words(50),
+        0x03 => Shape::Words(53),
+        0x04 => Shape::Words(16),
+        0x05 => Shape::Name,
+        0x0E => Shape::Nothing,
+        _ => Shape::Unlisted,
+    }
+}
+
+// What a whole frame says, by its opcode and the length of its data, with so much room.
+fn judge(asked: u8, opcode: u8, len: usize, words: usize, bytes: usize) -> Reply
+    ensures { λ r. ⌜ r ≡ judged asked opcode len words bytes ⌝ }
+{
+    let shape = shape_of(asked);
+    if let Shape::Unlisted = shape {
+        return refused(refusals::REQUEST);
+    }
+    let kind = kind_of(opcode);
+    match kind {
+        Kind::Failure => {
+            if len == 0 {
+                Reply::Failure(opcode)
+            } else {
+                refused(refusals::SHAPE)
+            }
+        }
+        Kind::Listed => {
+            if opcode == asked {
+                judge_shape(shape, len, words, bytes)
+            } else {
+                refused(refusals::REQUEST)
+            }
+        }
+        Kind::Other => refused(refusals::REQUEST),
+    }
+}
+
+// What the asked reply says, by the length of its data.
+fn judge_shape(shape: Shape, len: usize, words: usize, bytes: usize) -> Reply
+    ensures { λ r. ⌜ r ≡ shaped shape len words bytes ⌝ }
+{
+    match shape {
+        Shape::Words(n) => judge_words(n, len, words),
+        Shape::Name => {
+            if bytes < len {
+                refused(refusals::ROOM)
+            } else {
+                Reply::Name(len)
+            }
+        }
+        Shape::Nothing => {
+            if len == 0 {
+                Reply::Written
+            } else {
+                refused(refusals::SHAPE)
+            }
+        }
+        Shape::Unlisted => refused(refusals::REQUEST),
+    }
+}
+
+fn judge_words(n: usize, len: usize, room: usize) -> Reply
+    ensures { λ r. ⌜ r ≡ wordsJudged n len room ⌝ }
+{
+    if len % 4 != 0 {
+        return refused(refusals::SHAPE);
+    }
+    if len / 4 != n {
+        return refused(refusals::SHAPE);
+    }
+    if room < n {
+        return refused(refusals::ROOM);
+    }
+    Reply::Words(n)
+}
+
+// The first n words of the data go to the front of the row.
+fn fill(s: &[u8], row: &mut [i32], n: usize)
+    requires { ⌜ (n ≤ length (now row)) × (4 * n ≤ length (now s)) ⌝ }
+    ensures { λ _. ⌜ now (row .exit) ≡ words n (now (s .entry)) ++ drop n (now (row .entry)) ⌝ }
+{
+    let mut i = 0;
+    while i < n {
+        let at = 4 * i;
+        row[i] = word(s[at], s[at + 1], s[at + 2], s[at + 3]);
+        i += 1;
+    }
+}
+
+// The signed number of four bytes, the low one first.
+pub fn word(a: u8, b: u8, c: u8, d: u8) -> i32
+    ensures { λ r. ⌜ r ≡ wordOf a b c d ⌝ }
+{
+    signed32(number32(Order::LowFirst, a, b, c, d))
+}
+
+fn refused(number: u8) -> Reply
+    ensures { λ r. ⌜ r ≡ Reply.Refused (refusedWith number) ⌝ }
+{
+    Reply::Refused(refuse(number))
+}
