@@ -1,5 +1,6 @@
+pub mod Agreement
+pub mod Counts
+pub mod Histories
 pub mod Integers
 pub mod Members
-pub mod Agreement
 pub mod Ordering
-pub mod Counts

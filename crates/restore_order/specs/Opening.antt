@@ -4,28 +4,27 @@ use mathlib.Core.Bool.{Bool, true, _&&_}
 use mathlib.Core.List.{List, [], _∷_}
 use Prim.Native.Nat.{ℕ, zero, suc}
 use lib.IntN.{ℤ}
-use lib.Dec.{eqb, ltb}
-use lib.Signed.{leZ}
+use lib.Dec.{eqb}
 use lib.ListN.{length}
 use Rattle.laws.specs.Choice.{pick}
 use Rattle.refusals.specs.declared.Refusal.{Refusal}
 use Rattle.refusals.specs.Refused.{refusedWith, shape, range, wantedPair, presentPair}
-use Rattle.restore_order.specs.Slots.{Slot, at, sides}
+use Rattle.registers_pathfinder.specs.Registers.{count, fitsType, inRange}
+use Rattle.restore_order.specs.Slots.{Slot, slots, at, sides}
 use Rattle.restore_order.specs.Machine.{Job, jobOf, ready}
 
--- a device's table: its slots; how many settings are wanted, how many words a pack has; the settings' types and ranges
+-- a device's table: its slots; how many values are wanted, and how many words a pack has; whether a value fits the type of a setting;
+-- whether there is such a register and the value is in its range
 pub record Table : Type 0 where
   pub slots : List Slot
   pub settings : ℕ
   pub words : ℕ
-  pub typeLows : List ℤ
-  pub typeHighs : List ℤ
-  pub lows : List ℤ
-  pub highs : List ℤ
+  pub fitsType : ℕ → ℤ → Bool
+  pub inRange : ℕ → ℤ → Bool
 
--- v lies between two limits
-abbrev pub between : ℤ → ℤ → ℤ → Bool
-between low high v = leZ low v && leZ v high
+-- the Pathfinder's (000, Target register definitions; 01, Restore)
+abbrev pub pathfinder : Table
+pathfinder = record { slots = slots; settings = count; words = 50; fitsType = fitsType; inRange = inRange }
 
 -- a test holds of every number below n
 unfoldable pub every : ℕ → (ℕ → Bool) → Bool
@@ -38,20 +37,14 @@ pub data Opened : Type 0 where
   unopened : Refusal → Opened
 
 module _ (t : Table) where
-  abbrev pub fitsType : ℕ → ℤ → Bool
-  fitsType n v = between (at (t .typeLows) n) (at (t .typeHighs) n) v
-
-  abbrev pub inRange : ℕ → ℤ → Bool
-  inRange n v = between (at (t .lows) n) (at (t .highs) n) v
-
   -- the right numbers of words and values, each present setting of its type
   abbrev pub shapely : List ℤ → List ℤ → Bool
   shapely o w =
-      eqb (length o) (t .words) && (eqb (length w) (t .settings) && every (t .settings) (λ n. fitsType n (at o n)))
+      eqb (length o) (t .words) && (eqb (length w) (t .settings) && every (t .settings) (λ n. t .fitsType n (at o n)))
 
   -- each wanted value in its range and of its setting's type
   abbrev pub ranged : List ℤ → Bool
-  ranged w = every (t .settings) (λ n. inRange n (at w n) && fitsType n (at w n))
+  ranged w = every (t .settings) (λ n. t .inRange n (at w n) && t .fitsType n (at w n))
 
   unfoldable pub opening : List ℤ → List ℤ → Opened
   opening o w =
@@ -62,7 +55,3 @@ module _ (t : Table) where
       (unopened (refusedWith wantedPair)))
       (unopened (refusedWith range)))
       (unopened (refusedWith shape))
-
-  -- a register that the table has, and a value in its range
-  abbrev pub known : ℕ → ℤ → Bool
-  known r v = ltb r (t .settings) && inRange r v

@@ -1,0 +1,131 @@
+-- What holds along every history that meets the suppositions, over any slots: the pack's words are safe, and a job that is ready agrees with the
+-- pack on the slots' settings. By cases on the phase and the call; a write that goes out is the first in order, so `kept` speaks of it. Assumes nothing.
+use mathlib.Core.Path.{_≡_, refl, sym, ap, _∙_}
+use mathlib.Core.Bool.{Bool, true, false}
+use mathlib.Core.List.{List, [], _∷_, _++_, append-nil}
+use mathlib.Core.Logic.{_⊎_, inl, inr, ⊎-elim}
+use Prim.Native.Nat.{ℕ, _<_, _≤_, _-_, _+_}
+use native.Mathlib.Omega.{arith}
+use lib.IntN.{ℤ}
+use lib.Dec.{eqb, ltb}
+use lib.ListN.{length, length-set}
+use lib.Seq.{append-snoc}
+use borrow.Author.Tests.{eqb-true, ne-eqb}
+use Rattle.laws.specs.Choice.{pick}
+use Rattle.refusals.specs.Refused.{refusedWith, room}
+use Rattle.restore_order.specs.Slots.{Slot, at, differs, writes, put, sides, isIn, apart}
+use Rattle.restore_order.specs.Machine.{Phase, ready, waiting, stopped, Job, jobOf, Asked, write, done, declined, offered, asked, afterAsked, Answer, success, failure, refused, heard, afterHeard}
+use Rattle.restore_order.specs.Line.{Pack, WriteRule, World, begin, Moment, asks, hears, register, answering, after, afterAll}
+use Rattle.restore_order.specs.Suppositions.{Always, Delivered, AtOnceOrNever, Taken, AnswersFrameSent, Quiet, NobodyElse, OnLine}
+use Rattle.restore_order.specs.Demands.{Safe}
+use Rattle.restore_order.proofs.Integers.{at-same, at-other}
+use Rattle.restore_order.proofs.Members.{two}
+use Rattle.restore_order.proofs.Agreement.{Agree, same-writes, same-sides, put-in-both}
+use Rattle.restore_order.proofs.Ordering.{Kept, in-below, first-in, kept}
+
+-- what the theorems need of an opening
+pub record Tested (s : List Slot) (k : ℕ) (inRange : ℕ → ℤ → Bool) (o w : List ℤ) : Type 0 where
+  pub slots-apart : apart k s ≡ true
+  pub long : k ≤ length o
+  pub in-range : (n : ℕ) → isIn n s ≡ true → inRange n (at w n) ≡ true
+  pub wanted-sides : sides s w ≡ true
+  pub present-sides : sides s o ≡ true
+
+module _ (s : List Slot) (k : ℕ) (inRange : ℕ → ℤ → Bool) (pack : Pack) (rule : WriteRule inRange pack) (o w : List ℤ) (t : Tested s k inRange o w) where
+  -- ---- the first write in order, to a pack whose words are safe
+
+  module _ (q : List ℤ) (safe : Safe s o w q) (r : ℕ) (rest : List ℕ) (first : writes s q w ≡ r ∷ rest) where
+    is-in : isIn r s ≡ true
+    is-in = first-in s q w r rest first
+
+    below : r < length q
+    below = omega (arith, in-below k r s (t .slots-apart) is-in, t .long, safe .long)
+
+    in-order : Kept q w s r rest
+    in-order =
+        kept k q w (omega (arith, t .long, safe .long)) r rest below s (t .slots-apart) (safe .side) (t .wanted-sides) first
+
+    -- it keeps them safe
+    pub written-safe : Safe s o w (put q w r)
+    written-safe =
+        record {
+          long = length-set q r (at w r) ∙ safe .long;
+          either = λ n i. here n i (eqb r n) refl;
+          side = in-order .0;
+          others = λ n out. at-other q r (at w r) n (ne-eqb r n (λ e. two s n r out is-in (sym e))) ∙ safe .others n out;
+        }
+      where
+        here : (n : ℕ) → isIn n s ≡ true → (b : Bool) → eqb r n ≡ b → (at (put q w r) n ≡ at o n) ⊎ (at (put q w r) n ≡ at w n)
+        here n i true e = inr (rw (sym (eqb-true r n e)) (at-same q r (at w r) below))
+        here n i false e = rw (at-other q r (at w r) n e) (safe .either n i)
+
+    -- and the pack answers success
+    pub written-answered : pack q r (at w r) ≡ record { words = put q w r; answer = success }
+    written-answered = rule q r (at w r) (t .in-range r is-in)
+
+  -- ---- what links the job to the pack
+
+  -- between two frames the picture agrees with the pack on the slots' settings; after a frame that reached the pack it will, once the register is
+  -- marked. The registers sent so far and those to come are the writes of the opening. No pack that obeys the rule stops the job
+  abbrev pub Linked : Phase → List ℤ → List ℤ → List ℤ → List Answer → List ℕ → Type 0
+  Linked ready p v q line log = (v ≡ w) × (k ≤ length p) × (log ++ writes s p w ≡ writes s o w) × Agree s p q
+  Linked (waiting r) p v q line log =
+      (v ≡ w) × (k ≤ length p) × (log ++ writes s (put p w r) w ≡ writes s o w) × ((line ≡ []) ⊎ ((line ≡ success ∷ []) × Agree s (put p w r) q))
+  Linked stopped p v q line log = ⊥
+
+  abbrev pub Inv : World → Type 0
+  Inv x = Safe s o w (x .words) × Linked (x .job .phase) (x .job .present) (x .job .wanted) (x .words) (x .answers) (x .sent)
+
+  pub begins : Inv (begin o o w)
+  begins =
+      (record { long = refl; either = λ n i. inl refl; side = t .present-sides; others = λ n out. refl }, (refl, t .long, refl, λ n i. refl))
+
+  -- ---- next
+
+  abbrev asking : Bool → List ℤ → List ℤ → List Answer → List ℕ → List ℤ → Asked → World
+  asking reached p q line log q′ a =
+      record {
+        job = afterAsked a (jobOf p w ready);
+        words = q′;
+        answers = answering s pack reached q line a;
+        sent = log ++ register a;
+      }
+
+  module _ (p q q′ : List ℤ) (line : List Answer) (log : List ℕ) (safe : Safe s o w q) (l : Linked ready p w q line log) where
+    nothing-goes-out : q′ ≡ q → Safe s o w q′ × Linked ready p w q′ line (log ++ [])
+    nothing-goes-out e = rw (e, append-nil) (safe, l)
+
+    frame-goes-out : (reached : Bool) (r : ℕ) (rest : List ℕ) → writes s p w ≡ r ∷ rest → Delivered s pack reached q (write r (at w r)) q′
+        → Inv (asking reached p q line log q′ (write r (at w r)))
+    frame-goes-out reached r rest e d = go reached d
+      where
+        first : writes s q w ≡ r ∷ rest
+        first = sym (same-writes p q w s (l .3)) ∙ e
+
+        r-below : r < k
+        r-below = in-below k r s (t .slots-apart) (first-in s p w r rest e)
+
+        agree : Agree s (put p w r) (put q w r)
+        agree = put-in-both s p q w r (omega (arith, l .1, r-below)) (below q safe r rest first) (l .3)
+
+        so-far : (log ++ (r ∷ [])) ++ writes s (put p w r) w ≡ writes s o w
+        so-far =
+            ap (λ (ws : List ℕ). (log ++ (r ∷ [])) ++ ws) (same-writes (put p w r) (put q w r) w s agree ∙ in-order q safe r rest first .1)
+            ∙ append-snoc log r rest ∙ ap (λ (ws : List ℕ). log ++ ws) (sym e) ∙ l .2
+
+        go : (b : Bool) → Delivered s pack b q (write r (at w r)) q′ → Inv (asking b p q line log q′ (write r (at w r)))
+        go true h =
+            let e′ : q′ ≡ put q w r = h ∙ ap (λ m. m .words) (written-answered q safe r rest first) in
+            rw (e′, written-answered q safe r rest first) (written-safe q safe r rest first, (refl, l .1, so-far, inr (refl, agree)))
+        go false h = rw h (safe, (refl, l .1, so-far, inl refl))
+
+    next-keeps : (size : ℕ) (reached : Bool) (ws : List ℕ) → writes s p w ≡ ws → Delivered s pack reached q (offered size w ws) q′
+        → Quiet s pack (offered size w ws) q q′ → Inv (asking reached p q line log q′ (offered size w ws))
+    next-keeps size reached [] e d n = nothing-goes-out n
+    next-keeps size reached (r ∷ rest) e d n = go (ltb size 11) d n
+      where
+        go : (b : Bool) → Delivered s pack reached q (pick b (declined (refusedWith room)) (write r (at w r))) q′
+            → Quiet s pack (pick b (declined (refusedWith room)) (write r (at w r))) q q′
+            → Inv (asking reached p q line log q′ (pick b (declined (refusedWith room)) (write r (at w r))))
+        go true d′ n′ = nothing-goes-out n′
+        go false d′ n′ = frame-goes-out reached r rest e d′
