@@ -93,7 +93,7 @@ module _ (s : List Slot) (k : ℕ) (inRange : ℕ → ℤ → Bool) (pack : Pack
 
   module _ (p q q′ : List ℤ) (line : List Answer) (log : List ℕ) (safe : Safe s o w q) (l : Linked ready p w q line log) where
     nothing-goes-out : q′ ≡ q → Safe s o w q′ × Linked ready p w q′ line (log ++ [])
-    nothing-goes-out e = rw (e, append-nil) (safe, l)
+    nothing-goes-out e = rw (e, append-nil log) (safe, l)
 
     frame-goes-out : (reached : Bool) (r : ℕ) (rest : List ℕ) → writes s p w ≡ r ∷ rest → Delivered s pack reached q (write r (at w r)) q′
         → Inv (asking reached p q line log q′ (write r (at w r)))
@@ -129,3 +129,47 @@ module _ (s : List Slot) (k : ℕ) (inRange : ℕ → ℤ → Bool) (pack : Pack
             → Inv (asking reached p q line log q′ (pick b (declined (refusedWith room)) (write r (at w r))))
         go true d′ n′ = nothing-goes-out n′
         go false d′ n′ = frame-goes-out reached r rest e d′
+
+  -- ---- reply
+
+  reply-keeps : (a : Answer) (p q q′ : List ℤ) (line : List Answer) (log : List ℕ) (r : ℕ) → Safe s o w q → Linked (waiting r) p w q line log
+      → Taken s pack line a → q′ ≡ q → Inv (record { job = afterHeard (jobOf p w (waiting r)) a; words = q′; answers = line; sent = log })
+  reply-keeps success p q q′ line log r safe l h e =
+      rw e (safe, (refl, simp length-set (l .1), l .2, ⊎-elim (λ n. absurd (no-answer n)) (λ y. y .1) (l .3)))
+    where
+      no-answer : line ≡ [] → ⊥
+      no-answer n = let z : _≡_ {A = ℕ} 0 1 = cc in omega arith
+  reply-keeps (failure c) p q q′ line log r safe l h e =
+      absurd (⊎-elim (λ n. let z : _≡_ {A = ℕ} 0 1 = cc in omega arith) (λ y. let z : _≡_ {A = ℕ} 0 1 = cc (y .0) in omega arith) (l .3))
+  reply-keeps (refused n) p q q′ line log r safe l h e = rw e (safe, l)
+
+  -- ---- every call, and so every history
+
+  module _ (p v q : List ℤ) (line : List Answer) (log : List ℕ) (safe : Safe s o w q) where
+    abbrev world : Phase → World
+    world ph = record { job = jobOf p v ph; words = q; answers = line; sent = log }
+
+    call-keeps : (m : Moment) (ph : Phase) → Linked ph p v q line log → AtOnceOrNever s pack (world ph) m → AnswersFrameSent s pack (world ph) m
+        → NobodyElse s pack (world ph) m → Inv (after s pack (world ph) m)
+    unfolding after
+    call-keeps (asks size reached q′) ready l d a n =
+        rw (l .0)
+        (next-keeps p q q′ line log safe (refl, l .1, l .2, l .3) size reached (writes s p w) refl (rw (l .0) at d) (rw (l .0) at n))
+    call-keeps (asks size reached q′) (waiting r) l d a n = rw (n, append-nil log) (safe, l)
+    call-keeps (asks size reached q′) stopped l d a n = absurd l
+    call-keeps (hears x q′) ready l d a n = rw n (safe, l)
+    call-keeps (hears x q′) (waiting r) l d a n = rw (l .0) (reply-keeps x p q q′ line log r safe (refl, l .1, l .2, l .3) a n)
+    call-keeps (hears x q′) stopped l d a n = absurd l
+
+  pub history-keeps : (h : List Moment) (x : World) → Inv x → OnLine s pack x h → Inv (afterAll s pack x h)
+  unfolding afterAll
+  history-keeps [] x i on = i
+  history-keeps (m ∷ h) x i on =
+      history-keeps h (after s pack x m)
+      (call-keeps (x .job .present) (x .job .wanted) (x .words) (x .answers) (x .sent) (i .0) m (x .job .phase) (i .1)
+      (on .at-once-or-never .0) (on .answers-frame-sent .0) (on .nobody-else .0))
+      (record {
+        at-once-or-never = on .at-once-or-never .1;
+        answers-frame-sent = on .answers-frame-sent .1;
+        nobody-else = on .nobody-else .1;
+      })
