@@ -95,28 +95,34 @@ module _ (s : List Slot) (k : ℕ) (inRange : ℕ → ℤ → Bool) (pack : Pack
     nothing-goes-out : q′ ≡ q → Safe s o w q′ × Linked ready p w q′ line (log ++ [])
     nothing-goes-out e = rw (e, append-nil log) (safe, l)
 
+    -- the first write of the picture is the first of the pack
+    module _ (r : ℕ) (rest : List ℕ) (e : writes s p w ≡ r ∷ rest) where
+      first : writes s q w ≡ r ∷ rest
+      first = sym (same-writes p q w s (l .3)) ∙ e
+
+      agree : Agree s (put p w r) (put q w r)
+      agree =
+          put-in-both s p q w r (omega (arith, l .1, in-below k r s (t .slots-apart) (first-in s p w r rest e))) (below q safe r rest first) (l .3)
+
+      pub rest-to-come : writes s (put p w r) w ≡ rest
+      rest-to-come = same-writes (put p w r) (put q w r) w s agree ∙ in-order q safe r rest first .1
+
     frame-goes-out : (reached : Bool) (r : ℕ) (rest : List ℕ) → writes s p w ≡ r ∷ rest → Delivered s pack reached q (write r (at w r)) q′
         → Inv (asking reached p q line log q′ (write r (at w r)))
     frame-goes-out reached r rest e d = go reached d
       where
-        first : writes s q w ≡ r ∷ rest
-        first = sym (same-writes p q w s (l .3)) ∙ e
-
-        r-below : r < k
-        r-below = in-below k r s (t .slots-apart) (first-in s p w r rest e)
-
-        agree : Agree s (put p w r) (put q w r)
-        agree = put-in-both s p q w r (omega (arith, l .1, r-below)) (below q safe r rest first) (l .3)
+        f : writes s q w ≡ r ∷ rest
+        f = first r rest e
 
         so-far : (log ++ (r ∷ [])) ++ writes s (put p w r) w ≡ writes s o w
         so-far =
-            ap (λ (ws : List ℕ). (log ++ (r ∷ [])) ++ ws) (same-writes (put p w r) (put q w r) w s agree ∙ in-order q safe r rest first .1)
-            ∙ append-snoc log r rest ∙ ap (λ (ws : List ℕ). log ++ ws) (sym e) ∙ l .2
+            ap (λ (ws : List ℕ). (log ++ (r ∷ [])) ++ ws) (rest-to-come r rest e) ∙ append-snoc log r rest
+            ∙ ap (λ (ws : List ℕ). log ++ ws) (sym e) ∙ l .2
 
         go : (b : Bool) → Delivered s pack b q (write r (at w r)) q′ → Inv (asking b p q line log q′ (write r (at w r)))
         go true h =
-            let e′ : q′ ≡ put q w r = h ∙ ap (λ m. m .words) (written-answered q safe r rest first) in
-            rw (e′, written-answered q safe r rest first) (written-safe q safe r rest first, (refl, l .1, so-far, inr (refl, agree)))
+            let e′ : q′ ≡ put q w r = h ∙ ap (λ m. m .words) (written-answered q safe r rest f) in
+            rw (e′, written-answered q safe r rest f) (written-safe q safe r rest f, (refl, l .1, so-far, inr (refl, agree r rest e)))
         go false h = rw h (safe, (refl, l .1, so-far, inl refl))
 
     next-keeps : (size : ℕ) (reached : Bool) (ws : List ℕ) → writes s p w ≡ ws → Delivered s pack reached q (offered size w ws) q′
@@ -132,6 +138,11 @@ module _ (s : List Slot) (k : ℕ) (inRange : ℕ → ℤ → Bool) (pack : Pack
 
   -- ---- reply
 
+  -- no pack that obeys the rule answers with a failure
+  pub no-failure : (p v q : List ℤ) (line : List Answer) (log : List ℕ) (r c : ℕ) → Linked (waiting r) p v q line log → line ≡ failure c ∷ [] → ⊥
+  no-failure p v q line log r c l e =
+      ⊎-elim (λ n. let z : _≡_ {A = ℕ} 0 1 = cc in omega arith) (λ y. let z : _≡_ {A = ℕ} 0 1 = cc (y .0) in omega arith) (l .3)
+
   reply-keeps : (a : Answer) (p q q′ : List ℤ) (line : List Answer) (log : List ℕ) (r : ℕ) → Safe s o w q → Linked (waiting r) p w q line log
       → Taken s pack line a → q′ ≡ q → Inv (record { job = afterHeard (jobOf p w (waiting r)) a; words = q′; answers = line; sent = log })
   reply-keeps success p q q′ line log r safe l h e =
@@ -139,8 +150,7 @@ module _ (s : List Slot) (k : ℕ) (inRange : ℕ → ℤ → Bool) (pack : Pack
     where
       no-answer : line ≡ [] → ⊥
       no-answer n = let z : _≡_ {A = ℕ} 0 1 = cc in omega arith
-  reply-keeps (failure c) p q q′ line log r safe l h e =
-      absurd (⊎-elim (λ n. let z : _≡_ {A = ℕ} 0 1 = cc in omega arith) (λ y. let z : _≡_ {A = ℕ} 0 1 = cc (y .0) in omega arith) (l .3))
+  reply-keeps (failure c) p q q′ line log r safe l h e = absurd (no-failure p w q line log r c l h)
   reply-keeps (refused n) p q q′ line log r safe l h e = rw e (safe, l)
 
   -- ---- every call, and so every history
@@ -161,15 +171,21 @@ module _ (s : List Slot) (k : ℕ) (inRange : ℕ → ℤ → Bool) (pack : Pack
     call-keeps (hears x q′) (waiting r) l d a n = rw (l .0) (reply-keeps x p q q′ line log r safe (refl, l .1, l .2, l .3) a n)
     call-keeps (hears x q′) stopped l d a n = absurd l
 
-  pub history-keeps : (h : List Moment) (x : World) → Inv x → OnLine s pack x h → Inv (afterAll s pack x h)
+  module _ (x : World) (m : Moment) (h : List Moment) (on : OnLine s pack x (m ∷ h)) where
+    pub moment-keeps : Inv x → Inv (after s pack x m)
+    moment-keeps i =
+        call-keeps (x .job .present) (x .job .wanted) (x .words) (x .answers) (x .sent) (i .0) m (x .job .phase) (i .1) (on .at-once-or-never .0)
+        (on .answers-frame-sent .0) (on .nobody-else .0)
+
+    pub later : OnLine s pack (after s pack x m) h
+    later =
+        record {
+          at-once-or-never = on .at-once-or-never .1;
+          answers-frame-sent = on .answers-frame-sent .1;
+          nobody-else = on .nobody-else .1;
+        }
+
+  pub history-keeps : (h : List Moment) (x : World) → OnLine s pack x h → Inv x → Inv (afterAll s pack x h)
   unfolding afterAll
-  history-keeps [] x i on = i
-  history-keeps (m ∷ h) x i on =
-      history-keeps h (after s pack x m)
-      (call-keeps (x .job .present) (x .job .wanted) (x .words) (x .answers) (x .sent) (i .0) m (x .job .phase) (i .1)
-      (on .at-once-or-never .0) (on .answers-frame-sent .0) (on .nobody-else .0))
-      (record {
-        at-once-or-never = on .at-once-or-never .1;
-        answers-frame-sent = on .answers-frame-sent .1;
-        nobody-else = on .nobody-else .1;
-      })
+  history-keeps [] x on i = i
+  history-keeps (m ∷ h) x on i = history-keeps h (after s pack x m) (later x m h on) (moment-keeps x m h on i)

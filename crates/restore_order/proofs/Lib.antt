@@ -1,5 +1,6 @@
 pub mod Agreement
 pub mod Counts
+pub mod Endings
 pub mod Histories
 pub mod Integers
 pub mod Members
