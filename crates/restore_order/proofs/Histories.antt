@@ -4,11 +4,11 @@ use mathlib.Core.Path.{_≡_, refl, sym, ap, _∙_}
 use mathlib.Core.Bool.{Bool, true, false}
 use mathlib.Core.List.{List, [], _∷_, _++_, append-nil}
 use mathlib.Core.Logic.{_⊎_, inl, inr, ⊎-elim}
-use Prim.Native.Nat.{ℕ, _<_, _≤_, _-_, _+_}
+use Prim.Native.Nat.{ℕ, zero, suc, _<_, _≤_}
 use native.Mathlib.Omega.{arith}
 use lib.IntN.{ℤ}
 use lib.Dec.{eqb, ltb}
-use lib.ListN.{length, length-set}
+use lib.ListN.{length, take, length-set}
 use lib.Seq.{append-snoc}
 use borrow.Author.Tests.{eqb-true, ne-eqb}
 use Rattle.laws.specs.Choice.{pick}
@@ -189,3 +189,19 @@ module _ (s : List Slot) (k : ℕ) (inRange : ℕ → ℤ → Bool) (pack : Pack
   unfolding afterAll
   history-keeps [] x on i = i
   history-keeps (m ∷ h) x on i = history-keeps h (after s pack x m) (later x m h on) (moment-keeps x m h on i)
+
+-- ---- a history that is cut earlier meets the suppositions too
+
+module _ (s : List Slot) (pack : Pack) where
+  always-cut : (P : World → Moment → Type 0) (n : ℕ) (h : List Moment) (x : World) → Always s pack P x h → Always s pack P x (take n h)
+  always-cut P zero h x a = tt
+  always-cut P (suc n) [] x a = tt
+  always-cut P (suc n) (m ∷ h) x a = (a .0, always-cut P n h (after s pack x m) (a .1))
+
+  pub cut : (n : ℕ) (h : List Moment) (x : World) → OnLine s pack x h → OnLine s pack x (take n h)
+  cut n h x on =
+      record {
+        at-once-or-never = always-cut (AtOnceOrNever s pack) n h x (on .at-once-or-never);
+        answers-frame-sent = always-cut (AnswersFrameSent s pack) n h x (on .answers-frame-sent);
+        nobody-else = always-cut (NobodyElse s pack) n h x (on .nobody-else);
+      }

@@ -4,4 +4,5 @@ pub mod Endings
 pub mod Histories
 pub mod Integers
 pub mod Members
+pub mod Openings
 pub mod Ordering
