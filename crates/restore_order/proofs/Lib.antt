@@ -1,5 +1,6 @@
 pub mod Agreement
 pub mod Counts
+pub mod Demand3
 pub mod Endings
 pub mod Histories
 pub mod Integers
