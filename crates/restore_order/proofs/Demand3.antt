@@ -27,7 +27,8 @@ use Rattle.restore_order.proofs.Openings.{every-at, Passed, passed, pas
 
 -- ---- the table
 
-slots-apart : apart 15 slots ≡ true
+-- no setting stands twice
+pub slots-apart : apart 15 slots ≡ true
 unfolding apart isIn
 slots-apart = refl
 
@@ -159,9 +160,9 @@ module _ (pack : Pack) (rule : WriteRule (pathfinder .inRange) pack) (o w : List
   each-night (h ∷ hs) q safe on =
       let p : Passed pathfinder q w = again pack rule o w opened-first q safe in
       let here : (n : ℕ) → Safe slots o w (leaves pathfinder pack w q (take n h)) =
-          λ n. further pack rule o w opened-first q safe (leaves pathfinder pack w q (take n h)) (safe-along pack rule q w p h (on .0) n) in
+      λ n. further pack rule o w opened-first q safe (leaves pathfinder pack w q (take n h)) (safe-along pack rule q w p h (on .0) n) in
       let whole : Safe slots o w (leaves pathfinder pack w q h) =
-          further pack rule o w opened-first q safe (leaves pathfinder pack w q h) (along pack rule q w p h (on .0) .0) in
+      further pack rule o w opened-first q safe (leaves pathfinder pack w q h) (along pack rule q w p h (on .0) .0) in
       let rest = each-night hs (leaves pathfinder pack w q h) whole (on .1) in
       ((passes pathfinder q w p, here, rest .0), rest .1)
 

@@ -118,9 +118,9 @@ module _ (s : List Slot) (k : ℕ) (inRange : ℕ → ℤ → Bool) (pack : Pack
   history-sends [] x on own i = omega arith
   history-sends (m ∷ h) x on own i =
       let here =
-          call-sends (x .job .present) (x .job .wanted) (x .words) (x .answers) (x .sent) (i .0) m (x .job .phase) (i .1) (own .0) in
+      call-sends (x .job .present) (x .job .wanted) (x .words) (x .answers) (x .sent) (i .0) m (x .job .phase) (i .1) (own .0) in
       let there =
-          history-sends h (after s pack x m) (later s k inRange pack rule o w t x m h on) (own .1) (moment-keeps s k inRange pack rule o w t x m h on i) in
+      history-sends h (after s pack x m) (later s k inRange pack rule o w t x m h on) (own .1) (moment-keeps s k inRange pack rule o w t x m h on i) in
       omega arith
 
   -- once next was called often enough with room for a frame, the restore has come to its end

@@ -41,7 +41,7 @@ module _ (s : List Slot) (k : ℕ) (inRange : ℕ → ℤ → Bool) (pack : Pack
     below : r < length q
     below = omega (arith, in-below k r s (t .slots-apart) is-in, t .long, safe .long)
 
-    in-order : Kept q w s r rest
+    pub in-order : Kept q w s r rest
     in-order =
         kept k q w (omega (arith, t .long, safe .long)) r rest below s (t .slots-apart) (safe .side) (t .wanted-sides) first
 
