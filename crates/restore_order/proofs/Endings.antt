@@ -10,10 +10,8 @@ use lib.IntN.{ℤ}
 use lib.Dec.{ltb, leb}
 use lib.ListN.{length}
 use borrow.Author.Tests.{ltb-true, ltb-false, lt-leb, le-leb}
-use Rattle.laws.specs.Choice.{pick}
-use Rattle.refusals.specs.Refused.{refusedWith, room}
 use Rattle.restore_order.specs.Slots.{Slot, at, writes, put, one, times}
-use Rattle.restore_order.specs.Machine.{Phase, ready, waiting, stopped, Job, jobOf, Asked, write, done, declined, offered, askedIn, asked, afterAsked, Answer, success, failure, refused, afterHeard}
+use Rattle.restore_order.specs.Machine.{Phase, ready, waiting, stopped, Job, jobOf, Asked, write, done, declined, unless, offered, askedIn, asked, afterAsked, Answer, success, failure, refused, afterHeard}
 use Rattle.restore_order.specs.Line.{Pack, WriteRule, World, begin, Moment, asks, hears, after, afterAll}
 use Rattle.restore_order.specs.Suppositions.{Always, OnLine, Idle, OwnReply, Answered, chance, chances}
 use Rattle.restore_order.specs.Demands.{Safe, Finished}
@@ -37,7 +35,7 @@ module _ (s : List Slot) (k : ℕ) (inRange : ℕ → ℤ → Bool) (pack : Pack
   nothing-offered size v [] e = refl
   nothing-offered size v (r ∷ rest) e = absurd (go (ltb size 11) e)
     where
-      go : (b : Bool) → pick b (declined (refusedWith room)) (write r (at v r)) ≡ done → ⊥
+      go : (b : Bool) → unless b r (at v r) ≡ done → ⊥
       go true e′ = let z : _≡_ {A = ℕ} 0 1 = cc in omega arith
       go false e′ = let z : _≡_ {A = ℕ} 0 1 = cc in omega arith
 
@@ -86,7 +84,7 @@ module _ (s : List Slot) (k : ℕ) (inRange : ℕ → ℤ → Bool) (pack : Pack
   next-sends p q line log safe l size (r ∷ rest) e = go (ltb size 11) refl
     where
       go : (b : Bool) → ltb size 11 ≡ b
-          → toSend (afterAsked (pick b (declined (refusedWith room)) (write r (at w r))) (jobOf p w ready)) ≤ length (r ∷ rest) - one (leb 11 size)
+          → toSend (afterAsked (unless b r (at w r)) (jobOf p w ready)) ≤ length (r ∷ rest) - one (leb 11 size)
       go true h = rw (e, lt-leb 11 size (ltb-true size 11 h)) (omega arith)
       go false h =
           rw (rest-to-come s k inRange pack rule o w t p q q line log safe l r rest e, le-leb 11 size (ltb-false size 11 h)) (omega arith)

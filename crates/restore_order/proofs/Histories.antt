@@ -11,10 +11,8 @@ use lib.Dec.{eqb, ltb}
 use lib.ListN.{length, take, length-set}
 use lib.Seq.{append-snoc}
 use borrow.Author.Tests.{eqb-true, ne-eqb}
-use Rattle.laws.specs.Choice.{pick}
-use Rattle.refusals.specs.Refused.{refusedWith, room}
 use Rattle.restore_order.specs.Slots.{Slot, at, differs, writes, put, sides, isIn, apart}
-use Rattle.restore_order.specs.Machine.{Phase, ready, waiting, stopped, Job, jobOf, Asked, write, done, declined, offered, asked, afterAsked, Answer, success, failure, refused, heard, afterHeard}
+use Rattle.restore_order.specs.Machine.{Phase, ready, waiting, stopped, Job, jobOf, Asked, write, done, declined, unless, offered, asked, afterAsked, Answer, success, failure, refused, heard, afterHeard}
 use Rattle.restore_order.specs.Line.{Pack, WriteRule, World, begin, Moment, asks, hears, register, answering, after, afterAll}
 use Rattle.restore_order.specs.Suppositions.{Always, Delivered, AtOnceOrNever, Taken, AnswersFrameSent, Quiet, NobodyElse, OnLine}
 use Rattle.restore_order.specs.Demands.{Safe}
@@ -130,9 +128,9 @@ module _ (s : List Slot) (k : ℕ) (inRange : ℕ → ℤ → Bool) (pack : Pack
     next-keeps size reached [] e d n = nothing-goes-out n
     next-keeps size reached (r ∷ rest) e d n = go (ltb size 11) d n
       where
-        go : (b : Bool) → Delivered s pack reached q (pick b (declined (refusedWith room)) (write r (at w r))) q′
-            → Quiet s pack (pick b (declined (refusedWith room)) (write r (at w r))) q q′
-            → Inv (asking reached p q line log q′ (pick b (declined (refusedWith room)) (write r (at w r))))
+        go : (b : Bool) → Delivered s pack reached q (unless b r (at w r)) q′
+            → Quiet s pack (unless b r (at w r)) q q′
+            → Inv (asking reached p q line log q′ (unless b r (at w r)))
         go true d′ n′ = nothing-goes-out n′
         go false d′ n′ = frame-goes-out reached r rest e d′
 
