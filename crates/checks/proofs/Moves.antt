@@ -80,3 +80,21 @@ sixteen-moves =
 
 pub spread-lt : (x : ℕ) → x < 65536 → spread (mixed x) < 65536
 spread-lt x h = subst (λ (y : ℕ). y < 65536) (sym (sixteen-moves x h)) (shifts-lt 8 (shifts 8 x) (shifts-lt 8 x h))
+
+-- ---- eight moves
+
+unfoldable pub eighth : ℕ → ℕ
+eighth x =
+    bitXor
+    (bitXor (bitXor (x % 256 * 256) (bitXor (x / 256) (x / 4096))) (bitXor (x / 256) (x / 4096) % 256 * 32))
+    (bitXor (x / 256) (x / 4096) % 16 * 4096)
+
+eighth-linear : Linear eighth
+unfolding eighth
+eighth-linear =
+    let top : Linear (λ (x : ℕ). bitXor (x / 256) (x / 4096)) = both (down 8) (down 12) in
+    both (both (both (then (low 8) (up 8)) top) (then (then top (low 8)) (up 5))) (then (then top (low 4)) (up 12))
+
+pub eight-moves : (x : ℕ) → x < 65536 → eighth x ≡ shifts 8 x
+unfolding eighth below shifts shift
+eight-moves = agree eighth (shifts 8) eighth-linear (moved 8) tt

@@ -2,11 +2,11 @@
 -- Assumes nothing.
 use mathlib.Core.Path.{_≡_, refl, sym, ap, _∙_}
 use mathlib.Core.List.{List, [], _∷_}
-use Prim.Native.Nat.{ℕ, zero, suc, _+_, _%_, _<_}
+use Prim.Native.Nat.{ℕ, zero, suc, _+_, _%_, _<_, _≤_}
 use native.Mathlib.Omega.{arith}
 use lib.ListN.{length, getD, take, drop, take-append-drop}
 use lib.Seq.{take-suc}
-use Rattle.laws.proofs.Walk.{left-next}
+use Rattle.laws.proofs.Walk.{left-next, left-none}
 use Rattle.checks.specs.Crc.{shift, shifts, crcStep, crcFrom, crcOf}
 use Rattle.checks.proofs.Damage.{from-append}
 
@@ -32,3 +32,17 @@ two-next s i r h =
     sym
     (ap (crcFrom r) (left-next s i (omega arith)) ∙ ap (crcFrom (crcStep r (getD s i 0))) (left-next s (i + 1) h)
     ∙ ap (λ (n : ℕ). crcFrom (crcStep (crcStep r (getD s i 0)) (getD s (i + 1) 0)) (drop n s)) more)
+
+-- ---- one at a time, for a caller that walks the bytes itself
+
+pub one-next : (s : List ℕ) (i r : ℕ) → i < length s → crcFrom (crcStep r (getD s i 0)) (drop (i + 1) s) ≡ crcFrom r (drop i s)
+unfolding crcFrom
+one-next s i r h = sym (ap (crcFrom r) (left-next s i h))
+
+pub none-left : (s : List ℕ) (i r : ℕ) → length s ≤ i → crcFrom r (drop i s) ≡ r
+unfolding crcFrom
+none-left s i r h = ap (crcFrom r) (left-none s i h)
+
+pub from-zero : (s : List ℕ) → crcFrom 0 s ≡ crcOf s
+unfolding crcOf
+from-zero s = refl

@@ -48,6 +48,21 @@ fn sixteen(x: u32) -> u32
     mixed ^ (mixed % 2048 * 32) ^ (mixed % 16 * 4096)
 }
 
+// The register after one byte more, for a caller that walks the bytes itself.
+pub fn crc_step(r: u16, b: u8) -> u16
+    ensures { λ x. ⌜ x ≡ crcStep r b ⌝ }
+{
+    eight(r ^ (b as u16 * 256))
+}
+
+// Eight moves of the register at once, in the same way.
+fn eight(x: u16) -> u16
+    ensures { λ r. ⌜ r ≡ shifts 8 x ⌝ }
+{
+    let y = (x / 256) ^ (x / 4096);
+    (x % 256 * 256) ^ y ^ (y % 256 * 32) ^ (y % 16 * 4096)
+}
+
 // The byte that brings the sum of the bytes to 0 modulo 256.
 pub fn close256(s: &[u8]) -> u8
     ensures { λ r. ⌜ r ≡ closing 256 (total (now (s .entry))) ⌝ }

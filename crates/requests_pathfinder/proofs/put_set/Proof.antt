@@ -1,0 +1,79 @@
+-- `requests_pathfinder::put_set` meets its contract: five stores write the whole part.
+-- Assumes nothing.
+use mathlib.Core.Path.{_≡_, sym, ap, _∙_}
+use Prim.Native.Nat.{ℕ}
+use mathlib.Core.List.{List, _∷_, []}
+use native.Mathlib.Omega.{arith}
+use lib.ListN.{getD, length-set}
+use mir.Syntax.{w32}
+use mir.ValLaws.{toZ-ofZ}
+use Rattle.numbers.specs.Signed.{bitsOf}
+use Rattle.numbers.specs.Bytes.{bytesOf}
+use Rattle.numbers.specs.declared.Order.the-variants.{LowFirst}
+use Rattle.frames_pathfinder.proofs.Writers.{all-of}
+use Rattle.requests_pathfinder.specs.Requests.{setLoad}
+use borrow.Author.Needs.{needs}
+use Rattle.requests_pathfinder.proofs.put_set.Statement.{statement}
+use Rattle.requests_pathfinder.proofs.put_set.Tie as tie
+
+bits32-requires : tie.Need-bits32-requires
+bits32-requires c κs = search needs
+
+bytes32-requires : tie.Need-bytes32-requires
+bytes32-requires c κs = search needs
+
+slice-write-out : tie.Need-slice-write-out
+slice-write-out c = search needs
+
+array-read-out : tie.Need-array-read-out
+array-read-out c = search needs
+
+slice-write-out-2 : tie.Need-slice-write-out-2
+slice-write-out-2 c = search needs
+
+array-read-out-2 : tie.Need-array-read-out-2
+array-read-out-2 c = search needs
+
+slice-write-out-3 : tie.Need-slice-write-out-3
+slice-write-out-3 c = search needs
+
+array-read-out-3 : tie.Need-array-read-out-3
+array-read-out-3 c = search needs
+
+slice-write-out-4 : tie.Need-slice-write-out-4
+slice-write-out-4 c = search needs
+
+array-read-out-4 : tie.Need-array-read-out-4
+array-read-out-4 c = search needs
+
+slice-write-out-5 : tie.Need-slice-write-out-5
+slice-write-out-5 c = simp length-set (omega arith)
+
+same-length : tie.Need-same-length
+same-length c = search needs
+
+returns : tie.Need-returns
+returns c =
+    let a = c .before .before .before .args in
+    let held = toZ-ofZ w32 (a .value) (c .before .before .before .fits .value) in
+    let e = c .bytes32 .ensures ∙ ap (bytesOf LowFirst 4) (c .before .bits32 .ensures ∙ ap (bitsOf 32) held) in
+    let at : (i : ℕ) → getD (c .bytes32 .result) i 0 ≡ getD (bytesOf LowFirst 4 (bitsOf 32 (a .value))) i 0 = λ i. ap (λ (l : List ℕ). getD l i 0) e in
+    rw (at 0, at 1, at 2, at 3) (all-of (setLoad (a .register) (a .value)) (a .out .now) (c .before .before .before .pre))
+
+pub put-set-spec : {M : Type 1} → statement M
+put-set-spec =
+    tie.close
+    (tie.spec
+    bits32-requires
+    bytes32-requires
+    slice-write-out
+    array-read-out
+    slice-write-out-2
+    array-read-out-2
+    slice-write-out-3
+    array-read-out-3
+    slice-write-out-4
+    array-read-out-4
+    slice-write-out-5
+    same-length
+    returns)

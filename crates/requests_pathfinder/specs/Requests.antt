@@ -1,0 +1,58 @@
+-- The requests, the one frame of each, and what writing one finds and leaves (000, 0x0E Write parameter register; 01, Pathfinder and
+-- Refusal numbers: writing uses 7, 10, 8, 9, 11). Assumes nothing.
+use Prim.Native.Nat.{ℕ, _+_}
+use mathlib.Core.Bool.{Bool, _&&_}
+use mathlib.Core.List.{List, [], _∷_, _++_}
+use lib.IntN.{ℤ}
+use lib.ListN.{length, drop}
+use lib.Dec.{ltb, leb, eqb}
+use Rattle.laws.specs.Choice.{pick}
+use Rattle.refusals.specs.Refused.{refusedWith, request, shape, range, register, room}
+use Rattle.numbers.specs.declared.Order.the-variants.{LowFirst}
+use Rattle.numbers.specs.Bytes.{bytesOf}
+use Rattle.numbers.specs.Signed.{bitsOf}
+use Rattle.frames_pathfinder.specs.Writing.{frameBytes}
+use Rattle.registers_pathfinder.specs.Registers.{count, inRange}
+use Rattle.requests_pathfinder.specs.declared.Request.{Request}
+use Rattle.requests_pathfinder.specs.declared.Request.the-variants.{Ask, Write}
+use Rattle.requests_pathfinder.specs.declared.Written.{Written}
+use Rattle.requests_pathfinder.specs.declared.Written.the-variants.{Frame, Refused}
+
+-- the requests that have no data: 01 to 05
+abbrev pub asks : ℕ → Bool
+asks op = leb 0x01 op && leb op 0x05
+
+abbrev pub opcodeOf : Request → ℕ
+opcodeOf (Ask op) = op
+opcodeOf (Write r v) = 0x0E
+
+-- register and value, four bytes, the low one first
+abbrev pub setLoad : ℕ → ℤ → List ℕ
+setLoad r v = r ∷ bytesOf LowFirst 4 (bitsOf 32 v)
+
+abbrev pub loadOf : Request → List ℕ
+loadOf (Ask op) = []
+loadOf (Write r v) = setLoad r v
+
+-- the frame that the document gives for a request
+abbrev pub frameFor : Request → List ℕ
+frameFor q = frameBytes (opcodeOf q) (loadOf q)
+
+-- the number of the refusal that a request meets whatever the room, 0 where there is none: a request that isn't listed 7, an unknown register
+-- 10, 0E asked for without its values 8, a value outside its range 9
+unfoldable pub faultOf : Request → ℕ
+faultOf (Ask op) = pick (asks op) 0 (pick (eqb op 0x0E) shape request)
+faultOf (Write r v) = pick (ltb r count) (pick (inRange r v) 0 range) register
+
+-- what writing a request without fault answers, with so much room
+unfoldable pub writtenAs : Request → ℕ → Written
+writtenAs q places =
+    pick (ltb places (length (loadOf q) + 6)) (Refused (refusedWith room)) (Frame (length (loadOf q) + 6))
+
+unfoldable pub sentAs : Request → ℕ → Written
+sentAs q places = pick (eqb (faultOf q) 0) (writtenAs q places) (Refused (refusedWith (faultOf q)))
+
+-- the room after: the frame in front of what was there past it; after a refusal as it was
+abbrev pub roomAfter : Written → Request → List ℕ → List ℕ
+roomAfter (Frame n) q out = frameFor q ++ drop n out
+roomAfter (Refused r) q out = out

@@ -1,0 +1,186 @@
+// Pathfinder requests (000, List of Instruction Opcodes and 0x0E Write parameter register; 01, Pathfinder): 01 to 05 without data, 0E with a
+// register and a signed value, written as frames and read again.
+use frames_pathfinder::Frame;
+use frames_pathfinder::begin;
+use frames_pathfinder::read_frame;
+use frames_pathfinder::seal;
+use numbers::Order;
+use numbers::bits32;
+use numbers::bytes32;
+use records_pathfinder::word;
+use refusals::Refusal;
+use refusals::refuse;
+use registers_pathfinder::in_range;
+use registers_pathfinder::is_register;
+ghost use mathlib.Core.Path.{_≡_};
+ghost use lib.ListN.{length};
+ghost use Rattle.refusals.specs.Refused.{refusedWith};
+ghost use Rattle.requests_pathfinder.specs.Requests.{setLoad, faultOf, sentAs, writtenAs, roomAfter};
+ghost use Rattle.requests_pathfinder.specs.Reading.{parsedSet, parsedOf, requestOf};
+
+pub enum Request {
+    // A request without data, by its opcode.
+    Ask(u8),
+    // Request 0E.
+    Write { register: u8, value: i32 },
+}
+
+pub enum Written {
+    // A frame of so many bytes stands at the front of the room.
+    Frame(usize),
+    Refused(Refusal),
+}
+
+pub enum Parsed {
+    Is(Request),
+    Refused(Refusal),
+}
+
+// Writes a request's frame at the front of the room; bytes after it keep their contents, and a refusal changes nothing.
+pub fn write_request(q: Request, out: &mut [u8]) -> Written
+    ensures answer { λ r. ⌜ r ≡ sentAs q (length (now (out .entry))) ⌝ }
+    ensures room { λ r. ⌜ now (out .exit) ≡ roomAfter r q (now (out .entry)) ⌝ }
+{
+    let number = fault(q);
+    if number != 0 {
+        return not_written(number);
+    }
+    match q {
+        Request::Ask(opcode) => write_ask(opcode, out),
+        Request::Write { register, value } => write_set(register, value, out),
+    }
+}
+
+// Reads a request.
+pub fn read_request(s: &[u8]) -> Parsed
+    ensures { λ r. ⌜ r ≡ requestOf (now (s .entry)) ⌝ }
+{
+    let f = read_frame(s);
+    match f {
+        Frame::Refused(r) => Parsed::Refused(r),
+        Frame::Whole { opcode, start, len } => parse(opcode, &s[start..start + len]),
+    }
+}
+
+// The refusal that a request meets before any room is looked at, or 0.
+fn fault(q: Request) -> u8
+    ensures { λ r. ⌜ r ≡ faultOf q ⌝ }
+{
+    match q {
+        Request::Ask(opcode) => fault_of_ask(opcode),
+        Request::Write { register, value } => fault_of_write(register, value),
+    }
+}
+
+fn fault_of_ask(opcode: u8) -> u8
+    ensures { λ r. ⌜ r ≡ faultOf (Request.Ask opcode) ⌝ }
+{
+    if opcode < 1 {
+        return refusals::REQUEST;
+    }
+    if opcode <= 5 {
+        return 0;
+    }
+    if opcode == 0x0E {
+        return refusals::SHAPE;
+    }
+    refusals::REQUEST
+}
+
+fn fault_of_write(register: u8, value: i32) -> u8
+    ensures { λ r. ⌜ r ≡ faultOf (Request.Write register value) ⌝ }
+{
+    if !is_register(register) {
+        return refusals::REGISTER;
+    }
+    if !in_range(register, value) {
+        return refusals::RANGE;
+    }
+    0
+}
+
+fn write_ask(opcode: u8, out: &mut [u8]) -> Written
+    ensures answer { λ r. ⌜ r ≡ writtenAs (Request.Ask opcode) (length (now (out .entry))) ⌝ }
+    ensures room { λ r. ⌜ now (out .exit) ≡ roomAfter r (Request.Ask opcode) (now (out .entry)) ⌝ }
+{
+    if out.len() < 6 {
+        return not_written(refusals::ROOM);
+    }
+    begin(opcode, 0, out);
+    seal(0, out);
+    Written::Frame(6)
+}
+
+// The header, then the part for the data lent to their writer, then the part for checksum and end mark.
+fn write_set(register: u8, value: i32, out: &mut [u8]) -> Written
+    ensures answer { λ r. ⌜ r ≡ writtenAs (Request.Write register value) (length (now (out .entry))) ⌝ }
+    ensures room { λ r. ⌜ now (out .exit) ≡ roomAfter r (Request.Write register value) (now (out .entry)) ⌝ }
+{
+    if out.len() < 11 {
+        return not_written(refusals::ROOM);
+    }
+    begin(0x0E, 5, out);
+    put_set(register, value, &mut out[3..8]);
+    seal(5, out);
+    Written::Frame(11)
+}
+
+// Register and value, the value's low byte first.
+fn put_set(register: u8, value: i32, out: &mut [u8])
+    requires { ⌜ length (now out) ≡ 5 ⌝ }
+    ensures { λ _. ⌜ now (out .exit) ≡ setLoad register value ⌝ }
+{
+    let b = bytes32(Order::LowFirst, bits32(value));
+    out[0] = register;
+    out[1] = b[0];
+    out[2] = b[1];
+    out[3] = b[2];
+    out[4] = b[3];
+}
+
+fn parse(opcode: u8, load: &[u8]) -> Parsed
+    ensures { λ r. ⌜ r ≡ parsedOf opcode (now (load .entry)) ⌝ }
+{
+    if opcode == 0x0E {
+        return parse_set(load);
+    }
+    if opcode < 1 {
+        return not_parsed(refusals::REQUEST);
+    }
+    if 5 < opcode {
+        return not_parsed(refusals::REQUEST);
+    }
+    if load.len() != 0 {
+        return not_parsed(refusals::SHAPE);
+    }
+    Parsed::Is(Request::Ask(opcode))
+}
+
+fn parse_set(load: &[u8]) -> Parsed
+    ensures { λ r. ⌜ r ≡ parsedSet (now (load .entry)) ⌝ }
+{
+    if load.len() != 5 {
+        return not_parsed(refusals::SHAPE);
+    }
+    let register = load[0];
+    let value = word(load[1], load[2], load[3], load[4]);
+    if !is_register(register) {
+        return not_parsed(refusals::REGISTER);
+    }
+    if !in_range(register, value) {
+        return not_parsed(refusals::RANGE);
+    }
+    Parsed::Is(Request::Write { register, value })
+}
+
+fn not_written(number: u8) -> Written
+    ensures { λ r. ⌜ r ≡ Written.Refused (refusedWith number) ⌝ }
+{
+    Written::Refused(refuse(number))
+}
+
+fn not_parsed(number: u8) -> Parsed
+    ensures { λ r. ⌜ r ≡ Parsed.Refused (refusedWith number) ⌝ }
+{
+    Parsed::Refused(refuse(number))
+}
