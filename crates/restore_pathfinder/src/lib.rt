@@ -122,7 +122,7 @@ pub fn next(job: Job, out: &mut [u8]) -> Stepped
     if out.len() < 11 {
         return declined(job, refusals::ROOM);
     }
-    let value = value_of(&wanted, register);
+    let value = value_of(wanted, register);
     let written = write_request(Request::Write { register, value }, out);
     let waits = Job {
         present,
@@ -230,11 +230,20 @@ fn is_fit(n: u8, value: i32, wanted: bool) -> bool
     ensures { λ r. ⌜ r ≡ fits wanted n value ⌝ }
 {
     if wanted {
-        if !in_range(n, value) {
-            return false;
-        }
+        is_writable(n, value)
+    } else {
+        fits_type(n, value)
     }
-    fits_type(n, value)
+}
+
+fn is_writable(n: u8, value: i32) -> bool
+    ensures { λ r. ⌜ r ≡ (inRange n value && fitsType n value) ⌝ }
+{
+    if in_range(n, value) {
+        fits_type(n, value)
+    } else {
+        false
+    }
 }
 
 // Each pair has its upper member strictly above its lower one.
@@ -363,8 +372,8 @@ fn changed(present: &[i32; 50], wanted: &[i32; 15], n: u8) -> bool
 }
 
 // The wanted value of a setting, 0 where there is none.
-fn value_of(wanted: &[i32; 15], n: u8) -> i32
-    ensures { λ r. ⌜ r ≡ at (now (wanted .entry)) n ⌝ }
+fn value_of(wanted: [i32; 15], n: u8) -> i32
+    ensures { λ r. ⌜ r ≡ at wanted n ⌝ }
 {
     if n < 15 { wanted[n as usize] } else { 0 }
 }
@@ -432,7 +441,7 @@ fn marked(job: Job, register: u8) -> Job
     let wanted = job.wanted;
     let mut present = job.present;
     if register < 50 {
-        let value = value_of(&wanted, register);
+        let value = value_of(wanted, register);
         present[register as usize] = value;
     }
     Job {

@@ -1,0 +1,25 @@
+use borrow.Author.Needs.{needs}
+use Rattle.restore_pathfinder.proofs.is_shapely.Statement.{statement}
+use Rattle.restore_pathfinder.proofs.is_shapely.Tie as tie
+use Rattle.restore_pathfinder.proofs.is_shapely.Reads as reads
+use Rattle.restore_pathfinder.proofs.is_shapely.Lts as lts
+use Rattle.restore_pathfinder.proofs.all_fit.Reads as all-fit-reads
+
+-- src/lib.rt:206:9
+returns : tie.Need-returns
+returns c = ?
+
+-- src/lib.rt:209:9
+returns-2 : tie.Need-returns-2
+returns-2 c = ?
+
+-- src/lib.rt:211:5
+all-fit-requires : tie.Need-all-fit-requires
+all-fit-requires c κs = search needs
+
+-- src/lib.rt:202:1
+returns-3 : tie.Need-returns-3
+returns-3 c = ?
+
+pub is-shapely-spec : {M : Type 1} → statement M
+is-shapely-spec = tie.close (tie.spec returns returns-2 all-fit-requires returns-3)

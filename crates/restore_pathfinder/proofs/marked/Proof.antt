@@ -1,0 +1,30 @@
+use borrow.Author.Needs.{needs}
+use Rattle.restore_pathfinder.proofs.marked.Statement.{statement}
+use Rattle.restore_pathfinder.proofs.marked.Tie as tie
+use Rattle.restore_pathfinder.proofs.marked.Reads as reads
+use Rattle.restore_pathfinder.proofs.marked.Lts as lts
+use Rattle.restore_pathfinder.proofs.value_of.Reads as value-of-reads
+
+-- src/lib.rt:444:13
+value-of-requires : tie.Need-value-of-requires
+value-of-requires c κs = search needs
+
+-- src/lib.rt:445:9
+mul-present : tie.Need-mul-present
+mul-present c = search needs
+
+-- src/lib.rt:445:9
+array-set-from-present : tie.Need-array-set-from-present
+array-set-from-present c = search needs
+
+-- src/lib.rt:438:1
+returns : tie.Need-returns
+returns c = ?
+
+-- src/lib.rt:438:1
+returns-2 : tie.Need-returns-2
+returns-2 c = ?
+
+pub marked-spec : {M : Type 1} → statement M
+marked-spec =
+    tie.close (tie.spec value-of-requires mul-present array-set-from-present returns returns-2)

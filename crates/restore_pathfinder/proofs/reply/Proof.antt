@@ -1,0 +1,79 @@
+use borrow.Author.Needs.{needs}
+use Rattle.restore_pathfinder.proofs.reply.Statement.{statement}
+use Rattle.restore_pathfinder.proofs.reply.Tie as tie
+use Rattle.restore_pathfinder.proofs.reply.Reads as reads
+use Rattle.restore_pathfinder.proofs.reply.Lts as lts
+use Rattle.refusals.proofs.refuse.Reads as refuse-reads
+use Rattle.restore_pathfinder.proofs.decode.Reads as decode-reads
+use Rattle.restore_pathfinder.proofs.marked.Reads as marked-reads
+use Rattle.restore_pathfinder.proofs.stopped.Reads as stopped-reads
+
+-- src/lib.rt:140:24
+enum-known-phase : tie.Need-enum-known-phase
+enum-known-phase c = search needs
+
+-- src/lib.rt:142:37
+refuse-requires : tie.Need-refuse-requires
+refuse-requires c κs = search needs
+
+-- src/lib.rt:141:9
+returns : tie.Need-returns
+returns c = ?
+
+-- src/lib.rt:146:9
+decode-requires : tie.Need-decode-requires
+decode-requires c κs = search needs
+
+-- src/lib.rt:148:23
+enum-known-answer : tie.Need-enum-known-answer
+enum-known-answer c = search needs
+
+-- src/lib.rt:149:9
+enum-told : tie.Need-enum-told
+enum-told c = search needs
+
+-- src/lib.rt:149:9
+returns-2 : tie.Need-returns-2
+returns-2 c = ?
+
+-- src/lib.rt:154:18
+enum-told-2 : tie.Need-enum-told-2
+enum-told-2 c = search needs
+
+-- src/lib.rt:154:18
+marked-requires : tie.Need-marked-requires
+marked-requires c κs = search needs
+
+-- src/lib.rt:158:18
+enum-told-3 : tie.Need-enum-told-3
+enum-told-3 c = search needs
+
+-- src/lib.rt:158:18
+stopped-requires : tie.Need-stopped-requires
+stopped-requires c κs = search needs
+
+-- src/lib.rt:136:1
+returns-3 : tie.Need-returns-3
+returns-3 c = ?
+
+-- src/lib.rt:136:1
+returns-4 : tie.Need-returns-4
+returns-4 c = ?
+
+pub reply-spec : {M : Type 1} → statement M
+reply-spec =
+    tie.close
+    (tie.spec
+    enum-known-phase
+    refuse-requires
+    returns
+    decode-requires
+    enum-known-answer
+    enum-told
+    returns-2
+    enum-told-2
+    marked-requires
+    enum-told-3
+    stopped-requires
+    returns-3
+    returns-4)

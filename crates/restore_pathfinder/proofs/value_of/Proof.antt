@@ -1,0 +1,24 @@
+use borrow.Author.Needs.{needs}
+use Rattle.restore_pathfinder.proofs.value_of.Statement.{statement}
+use Rattle.restore_pathfinder.proofs.value_of.Tie as tie
+use Rattle.restore_pathfinder.proofs.value_of.Reads as reads
+use Rattle.restore_pathfinder.proofs.value_of.Lts as lts
+
+-- src/lib.rt:378:17
+mul-result : tie.Need-mul-result
+mul-result c = search needs
+
+-- src/lib.rt:378:17
+array-copy-out-result : tie.Need-array-copy-out-result
+array-copy-out-result c = search needs
+
+-- src/lib.rt:375:1
+returns : tie.Need-returns
+returns c = search needs
+
+-- src/lib.rt:375:1
+returns-2 : tie.Need-returns-2
+returns-2 c = ?
+
+pub value-of-spec : {M : Type 1} → statement M
+value-of-spec = tie.close (tie.spec mul-result array-copy-out-result returns returns-2)
