@@ -1,5 +1,5 @@
 -- What an opening that was not refused has tested, and that nothing else is asked: the tests of `opening` one by one, there and back.
--- Down the ladder step by step, and `every` by induction. Assumes nothing.
+-- The ladder by its cases, and `every` by induction. Assumes nothing.
 use mathlib.Core.Path.{_≡_, refl, sym, _∙_}
 use mathlib.Core.Bool.{Bool, true, false, _&&_}
 use mathlib.Core.List.{List}
@@ -11,13 +11,10 @@ use lib.Dec.{eqb}
 use lib.ListN.{length, take}
 use lib.Seq.{getD-take, length-take-le}
 use borrow.Author.Tests.{eqb-true, eqb-false, eq-eqb}
-use Rattle.laws.specs.Choice.{pick}
 use Rattle.laws.proofs.Ladders.{both}
-use Rattle.refusals.specs.declared.Refusal.{Refusal}
-use Rattle.refusals.specs.Refused.{refusedWith, shape, range, wantedPair, presentPair}
 use Rattle.restore_order.specs.Slots.{at, sides, isIn, apart}
 use Rattle.restore_order.specs.Machine.{Job, jobOf, ready}
-use Rattle.restore_order.specs.Opening.{Table, every, Opened, opened, unopened, shapely, ranged, opening}
+use Rattle.restore_order.specs.Opening.{Table, every, opened, inOrder, shapely, ranged, opening}
 use Rattle.restore_order.specs.Demands.{Safe}
 use Rattle.restore_order.proofs.Agreement.{same-sides}
 use Rattle.restore_order.proofs.Ordering.{in-below}
@@ -37,10 +34,13 @@ unfolding every
 at-every zero f h = refl
 at-every (suc k) f h = rw (at-every k f (λ n b. h n (omega arith)), h k (omega arith))
 
--- a step of the ladder at which the opening was not refused
-rung : (j : Job) (b : Bool) (further : Opened) (why : Refusal) → pick b further (unopened why) ≡ opened j → (b ≡ true) × (further ≡ opened j)
-rung j true further why e = (refl, e)
-rung j false further why e = let z : _≡_ {A = ℕ} 0 1 = cc in absurd (omega arith)
+-- an opening that was not refused passed all four
+all-four : (a b c d : Bool) (j : Job) → inOrder a b c d j ≡ opened j → (a ≡ true) × ((b ≡ true) × ((c ≡ true) × (d ≡ true)))
+all-four true true true true j e = (refl, (refl, (refl, refl)))
+all-four true true true false j e = let z : _≡_ {A = ℕ} 0 1 = cc in absurd (omega arith)
+all-four true true false d j e = let z : _≡_ {A = ℕ} 0 1 = cc in absurd (omega arith)
+all-four true false c d j e = let z : _≡_ {A = ℕ} 0 1 = cc in absurd (omega arith)
+all-four false b c d j e = let z : _≡_ {A = ℕ} 0 1 = cc in absurd (omega arith)
 
 module _ (t : Table) where
   pub record Passed (o w : List ℤ) : Type 0 where
@@ -66,33 +66,17 @@ module _ (t : Table) where
           words = eqb-true (length o) (t .words) (lengths .0);
           values = eqb-true (length w) (t .settings) (more .0);
           typed = every-at (t .settings) typed-at (more .1);
-          in-range = λ n h. both (t .inRange n (at w n)) (t .fitsType n (at w n)) (every-at (t .settings) ranged-at (second .0) n h) .0;
-          in-type = λ n h. both (t .inRange n (at w n)) (t .fitsType n (at w n)) (every-at (t .settings) ranged-at (second .0) n h) .1;
-          wanted = third .0;
-          present = fourth .0;
+          in-range = λ n h. both (t .inRange n (at w n)) (t .fitsType n (at w n)) (every-at (t .settings) ranged-at (four .1 .0) n h) .0;
+          in-type = λ n h. both (t .inRange n (at w n)) (t .fitsType n (at w n)) (every-at (t .settings) ranged-at (four .1 .0) n h) .1;
+          wanted = four .1 .1 .0;
+          present = four .1 .1 .1;
         }
       where
-        -- the ladder from its last step up
-        pairs : Opened
-        pairs = pick (sides (t .slots) o) (opened (jobOf o w ready)) (unopened (refusedWith presentPair))
-
-        values : Opened
-        values = pick (sides (t .slots) w) pairs (unopened (refusedWith wantedPair))
-
-        first : (shapely t o w ≡ true) × (pick (ranged t w) values (unopened (refusedWith range)) ≡ opened (jobOf o w ready))
-        first = rung (jobOf o w ready) (shapely t o w) (pick (ranged t w) values (unopened (refusedWith range))) (refusedWith shape) e
-
-        second : (ranged t w ≡ true) × (values ≡ opened (jobOf o w ready))
-        second = rung (jobOf o w ready) (ranged t w) values (refusedWith range) (first .1)
-
-        third : (sides (t .slots) w ≡ true) × (pairs ≡ opened (jobOf o w ready))
-        third = rung (jobOf o w ready) (sides (t .slots) w) pairs (refusedWith wantedPair) (second .1)
-
-        fourth : (sides (t .slots) o ≡ true) × (opened (jobOf o w ready) ≡ opened (jobOf o w ready))
-        fourth = rung (jobOf o w ready) (sides (t .slots) o) (opened (jobOf o w ready)) (refusedWith presentPair) (third .1)
+        four : (shapely t o w ≡ true) × ((ranged t w ≡ true) × ((sides (t .slots) w ≡ true) × (sides (t .slots) o ≡ true)))
+        four = all-four (shapely t o w) (ranged t w) (sides (t .slots) w) (sides (t .slots) o) (jobOf o w ready) e
 
         lengths : (eqb (length o) (t .words) ≡ true) × ((eqb (length w) (t .settings) && every (t .settings) typed-at) ≡ true)
-        lengths = both (eqb (length o) (t .words)) (eqb (length w) (t .settings) && every (t .settings) typed-at) (first .0)
+        lengths = both (eqb (length o) (t .words)) (eqb (length w) (t .settings) && every (t .settings) typed-at) (four .0)
 
         more : (eqb (length w) (t .settings) ≡ true) × (every (t .settings) typed-at ≡ true)
         more = both (eqb (length w) (t .settings)) (every (t .settings) typed-at) (lengths .1)

@@ -36,6 +36,15 @@ pub data Opened : Type 0 where
   opened : Job → Opened
   unopened : Refusal → Opened
 
+-- the refusals in their order: 8, 9, 12, 15
+abbrev pub inOrder : Bool → Bool → Bool → Bool → Job → Opened
+inOrder shapes values wanted present j =
+    pick shapes
+    (pick values
+    (pick wanted (pick present (opened j) (unopened (refusedWith presentPair))) (unopened (refusedWith wantedPair)))
+    (unopened (refusedWith range)))
+    (unopened (refusedWith shape))
+
 module _ (t : Table) where
   -- the right numbers of words and values, each present setting of its type
   abbrev pub shapely : List ℤ → List ℤ → Bool
@@ -47,11 +56,4 @@ module _ (t : Table) where
   ranged w = every (t .settings) (λ n. t .inRange n (at w n) && t .fitsType n (at w n))
 
   unfoldable pub opening : List ℤ → List ℤ → Opened
-  opening o w =
-      pick (shapely o w)
-      (pick (ranged w)
-      (pick (sides (t .slots) w)
-      (pick (sides (t .slots) o) (opened (jobOf o w ready)) (unopened (refusedWith presentPair)))
-      (unopened (refusedWith wantedPair)))
-      (unopened (refusedWith range)))
-      (unopened (refusedWith shape))
+  opening o w = inOrder (shapely o w) (ranged w) (sides (t .slots) w) (sides (t .slots) o) (jobOf o w ready)

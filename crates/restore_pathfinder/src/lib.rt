@@ -19,9 +19,9 @@ ghost use Rattle.laws.specs.Choice.{pick};
 ghost use Rattle.refusals.specs.Refused.{refusedWith};
 ghost use Rattle.registers_pathfinder.specs.Registers.{fitsType, inRange};
 ghost use Rattle.restore_order.specs.Slots.{at, eqZ, differs, upperFirst, inPair, writes, sides, slots, put};
-ghost use Rattle.restore_order.specs.Opening.{pathfinder, every, shapely, ranged, opening};
+ghost use Rattle.restore_order.specs.Opening.{pathfinder, every, unopened, shapely, opening};
 ghost use Rattle.restore_pathfinder.specs.Tables.{slotOf, upright};
-ghost use Rattle.restore_pathfinder.specs.Calls.{phaseOf, machine, openingOf, noJob, openOf, fits, firstOf, sentOf, nextOf, roomOf, answerOf, readAs, heardOf, leftOf};
+ghost use Rattle.restore_pathfinder.specs.Calls.{openingOf, openedAs, openOf, fits, firstOf, sentOf, nextOf, roomOf, answerOf, readAs, heardOf, leftOf};
 
 // Between two frames, waiting for the reply to the write of one register, or stopped by a device failure.
 pub enum Phase {
@@ -84,10 +84,9 @@ pub struct Heard {
 pub fn open(present: &[i32], wanted: &[i32]) -> Opened
     ensures { λ r. ⌜ r ≡ openOf (now (present .entry)) (now (wanted .entry)) ⌝ }
 {
-    let opening = judged(present, wanted);
-    let Opening::Accepted = opening else {
-        return not_opened(opening);
-    };
+    if let Opening::Refused(why) = judged(present, wanted) {
+        return not_opened(why);
+    }
     let mut words = [0i32; 50];
     let mut values = [0i32; 15];
     copy(present, &mut words);
@@ -271,11 +270,11 @@ fn is_upright(values: &[i32], upper: u8, lower: u8) -> bool
     less(values[lower as usize], values[upper as usize])
 }
 
-fn not_opened(opening: Opening) -> Opened
-    ensures { λ r. ⌜ r ≡ record { opening = opening; job = noJob } ⌝ }
+fn not_opened(why: Refusal) -> Opened
+    ensures { λ r. ⌜ r ≡ openedAs (unopened why) ⌝ }
 {
     Opened {
-        opening,
+        opening: Opening::Refused(why),
         job: Job {
             present: [0i32; 50],
             wanted: [0i32; 15],

@@ -1,53 +1,73 @@
+use lib.ListN.{length-set}
+use lib.Seq.{take-all}
+use Rattle.restore_order.specs.Slots.{at}
+use Rattle.restore_pathfinder.proofs.Numbers.{from-bits}
+use Rattle.restore_pathfinder.proofs.Loops.{copied-more}
+use mathlib.Core.Path.{_≡_, refl, sym, ap, ap₂, _∙_}
+use native.Mathlib.Omega.{arith}
+use Prim.Native.Nat.{ℕ, _+_, _-_, _≤_}
+use lib.ListN.{length, take}
+use borrow.Author.Needs.{needs}
 use Rattle.restore_pathfinder.proofs.copy.Statement.{statement}
 use Rattle.restore_pathfinder.proofs.copy.Tie as tie
 use Rattle.restore_pathfinder.proofs.copy.Reads as reads
 use Rattle.restore_pathfinder.proofs.copy.Lts as lts
 
 abbrev Inv-loop : tie.InvT-loop
-Inv-loop from to₀ i₀ to i = ?
+Inv-loop from to₀ i₀ to i = (i ≤ length from) × (length to ≡ length to₀) × (take i to ≡ take i from)
 
 abbrev μ-loop : tie.MeasureT-loop
-μ-loop from to₀ i₀ to i = ?
+μ-loop from to₀ i₀ to i = length from - i
 
 -- src/lib.rt:283:5
 loop-holds : tie.Need-loop-holds Inv-loop μ-loop
-loop-holds c = ?
+loop-holds c = (omega arith, refl, refl)
 
 -- src/lib.rt:284:17
 mul-v : tie.Need-mul-v Inv-loop μ-loop
-mul-v c = ?
+mul-v c = search needs
 
 -- src/lib.rt:284:17
 shared-slice-copy-out-v : tie.Need-shared-slice-copy-out-v Inv-loop μ-loop
-shared-slice-copy-out-v c = ?
+shared-slice-copy-out-v c = search needs
 
 -- src/lib.rt:285:9
 mul-v-2 : tie.Need-mul-v-2 Inv-loop μ-loop
-mul-v-2 c = ?
+mul-v-2 c = search needs
 
 -- src/lib.rt:285:9
 slice-set-from-v : tie.Need-slice-set-from-v Inv-loop μ-loop
-slice-set-from-v c = ?
+slice-set-from-v c = search needs
 
 -- src/lib.rt:286:9
 add-i : tie.Need-add-i Inv-loop μ-loop
-add-i c = ?
+add-i c = search needs
 
 -- src/lib.rt:283:5
 loop-less : tie.Need-loop-less Inv-loop μ-loop
-loop-less c = ?
+loop-less c = search needs
 
 -- src/lib.rt:283:5
 loop-again : tie.Need-loop-again Inv-loop μ-loop
-loop-again c = ?
+loop-again c =
+    let l = c .before .before .loop in
+    let s = c .before .before .before .args .from .now in
+    let e : length (l .to) ≡ length s = omega arith in
+    rw (from-bits (at s (l .i)) (c .v .given))
+    (omega arith, length-set (l .to) (l .i) (at s (l .i)) ∙ l .inv .1, copied-more s (l .to) (l .i) (omega arith) e (l .inv .2))
 
 -- src/lib.rt:278:1
 same-length : tie.Need-same-length Inv-loop μ-loop
-same-length c = ?
+same-length c = search needs
 
 -- src/lib.rt:278:1
 returns : tie.Need-returns Inv-loop μ-loop
-returns c = ?
+returns c =
+    let l = c .before .loop in
+    let s = c .before .before .args .from .now in
+    let e : l .i ≡ length s = omega arith in
+    let f : length (l .to) ≡ l .i = omega arith in
+    sym (take-all (l .i) (l .to) (omega arith)) ∙ l .inv .2 ∙ take-all (l .i) s (omega arith)
 
 pub copy-spec : {M : Type 1} → statement M
 copy-spec =
