@@ -1,3 +1,4 @@
 pub mod Loops
 pub mod Numbers
 pub mod Slots
+pub mod Steps

@@ -1,3 +1,7 @@
+use mathlib.Core.Path.{_≡_, refl, sym, ap, ap₂, _∙_}
+use Rattle.records_pathfinder.specs.declared.Reply.{Reply}
+use Rattle.restore_pathfinder.specs.declared.Answer.{Answer}
+use Rattle.restore_pathfinder.specs.Calls.{decodedOf, answerOf}
 use borrow.Author.Needs.{needs}
 use Rattle.restore_pathfinder.proofs.decode.Statement.{statement}
 use Rattle.restore_pathfinder.proofs.decode.Tie as tie
@@ -5,6 +9,9 @@ use Rattle.restore_pathfinder.proofs.decode.Reads as reads
 use Rattle.restore_pathfinder.proofs.decode.Lts as lts
 use Rattle.records_pathfinder.proofs.read_reply.Reads as read-reply-reads
 use Rattle.refusals.proofs.refuse.Reads as refuse-reads
+
+abbrev answer : Reply → Answer
+answer r = answerOf (decodedOf r)
 
 -- src/lib.rt:418:39
 slice-aggregate-read-reply : tie.Need-slice-aggregate-read-reply
@@ -48,23 +55,25 @@ enum-known-decoded-2 c = search needs
 
 -- src/lib.rt:413:1
 returns : tie.Need-returns
-returns c = ?
+returns c =
+    rw (c .refuse .ensures) (ap answer (sym (c .before .enum-told .given .1) ∙ c .before .before .before .before .before .read-reply .ensures .0))
 
 -- src/lib.rt:413:1
 returns-2 : tie.Need-returns-2
-returns-2 c = ?
+returns-2 c =
+    rw (c .refuse2 .ensures) (ap answer (sym (c .before .enum-told2 .given .1) ∙ c .before .before .before .before .before .read-reply .ensures .0))
 
 -- src/lib.rt:413:1
 returns-3 : tie.Need-returns-3
-returns-3 c = ?
+returns-3 c = ap answer (sym (c .enum-told3 .given .1) ∙ c .before .before .before .before .read-reply .ensures .0)
 
 -- src/lib.rt:413:1
 returns-4 : tie.Need-returns-4
-returns-4 c = ?
+returns-4 c = ap answer (sym (c .before .decoded .given .1) ∙ c .before .before .before .before .before .read-reply .ensures .0)
 
 -- src/lib.rt:413:1
 returns-5 : tie.Need-returns-5
-returns-5 c = ?
+returns-5 c = ap answer (sym (c .before .decoded2 .given .1) ∙ c .before .before .before .before .before .read-reply .ensures .0)
 
 pub decode-spec : {M : Type 1} → statement M
 decode-spec =

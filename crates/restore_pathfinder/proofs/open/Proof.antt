@@ -1,3 +1,11 @@
+use mathlib.Core.Path.{_≡_, refl, sym, ap, ap₂, _∙_}
+use mathlib.Core.Bool.{true}
+use mathlib.Core.List.{List}
+use lib.IntN.{ℤ}
+use Rattle.restore_order.specs.Machine.{jobOf, ready}
+use Rattle.restore_order.specs.Opening.{pathfinder, opened, shapely, opening}
+use Rattle.restore_pathfinder.specs.Calls.{openedAs}
+use Rattle.restore_pathfinder.proofs.Steps.{lengths, is-refused, is-opened}
 use borrow.Author.Needs.{needs}
 use Rattle.restore_pathfinder.proofs.open.Statement.{statement}
 use Rattle.restore_pathfinder.proofs.open.Tie as tie
@@ -8,6 +16,15 @@ use Rattle.restore_pathfinder.proofs.judged.Reads as judged-reads
 use Rattle.restore_pathfinder.proofs.not_opened.Reads as not-opened-reads
 
 -- src/lib.rt:87:36
+-- where the opening was accepted
+passed : (c : tie.After-enum-told)
+    → (shapely pathfinder (c .before .before .before .args .present .now) (c .before .before .before .args .wanted .now) ≡ true)
+    × (opening pathfinder (c .before .before .before .args .present .now) (c .before .before .before .args .wanted .now)
+    ≡ opened (jobOf (c .before .before .before .args .present .now) (c .before .before .before .args .wanted .now) ready))
+passed c =
+    let a = c .before .before .before .args in
+    is-opened (a .present .now) (a .wanted .now) (sym (c .enum-told .given .1) ∙ c .before .before .judged .ensures)
+
 judged-requires : tie.Need-judged-requires
 judged-requires c κs = search needs
 
@@ -21,7 +38,11 @@ not-opened-requires c κs = search needs
 
 -- src/lib.rt:88:9
 returns : tie.Need-returns
-returns c = ?
+returns c =
+    let a = c .before .before .before .before .before .args in
+    c .not-opened .ensures
+    ∙ is-refused (a .present .now) (a .wanted .now) (c .before .before .why .given .0 .0)
+    (sym (c .before .before .why .given .1) ∙ c .before .before .before .before .judged .ensures)
 
 enum-told : tie.Need-enum-told
 enum-told c = search needs
@@ -32,7 +53,9 @@ slice-aggregate-copy c = search needs
 
 -- src/lib.rt:92:5
 copy-requires : tie.Need-copy-requires
-copy-requires c κs = ?
+copy-requires c κs =
+    let a = c .before .before .before .before .args in
+    lengths (a .present .now) (a .wanted .now) (passed (c .before) .0) .0
 
 -- src/lib.rt:93:18
 slice-aggregate-copy-2 : tie.Need-slice-aggregate-copy-2
@@ -40,11 +63,15 @@ slice-aggregate-copy-2 c = search needs
 
 -- src/lib.rt:93:5
 copy-requires-2 : tie.Need-copy-requires-2
-copy-requires-2 c κs = ?
+copy-requires-2 c κs =
+    let a = c .before .before .before .before .before .before .before .args in
+    lengths (a .present .now) (a .wanted .now) (passed (c .before .before .before .before) .0) .1
 
 -- src/lib.rt:84:1
 returns-2 : tie.Need-returns-2
-returns-2 c = ?
+returns-2 c =
+    ap₂ (λ (p v : List ℤ). openedAs (opened (jobOf p v ready))) (c .before .before .before .before .copy .ensures) (c .before .copy2 .ensures)
+    ∙ ap openedAs (sym (passed (c .before .before .before .before .before .before) .1))
 
 pub open-spec : {M : Type 1} → statement M
 open-spec =

@@ -1,0 +1,180 @@
+-- The ways out of each call, each from the facts that the code has there; in order: open, next, reply.
+-- The ladder of an opening by its tests; next and reply by the phase, then by what the machine asks or hears. Assumes nothing.
+use mathlib.Core.Path.{_≡_, refl, sym, ap, _∙_}
+use mathlib.Core.Bool.{Bool, true, false, _&&_}
+use mathlib.Core.List.{List, [], _∷_}
+use mathlib.Core.Logic.{⊎-elim}
+use Prim.Native.Nat.{ℕ, _<_, _≤_}
+use native.Mathlib.Omega.{arith}
+use lib.IntN.{ℤ}
+use lib.Dec.{eqb, ltb}
+use lib.ListN.{length}
+use types.Run.{OneOf}
+use denote.Enum.Declared.{tagOf}
+use borrow.Author.Tests.{eqb-true, lt-ltb, le-ltb}
+use Rattle.laws.proofs.Ladders.{both}
+use Rattle.refusals.specs.declared.Refusal.{Refusal}
+use Rattle.refusals.specs.Refused.{refusedWith, shape, range, room, turn, wantedPair, presentPair}
+use Rattle.requests_pathfinder.specs.declared.Request.the-variants.{Write}
+use Rattle.requests_pathfinder.specs.declared.Written.{Written}
+use Rattle.requests_pathfinder.specs.Requests.{sentAs, roomAfter}
+use Rattle.restore_order.specs.Slots.{slots, at, writes, sides, put}
+use Rattle.restore_order.specs.Machine as M
+use Rattle.restore_order.specs.Opening.{pathfinder, every, Opened, opened, unopened, inOrder, shapely, ranged, opening}
+use Rattle.restore_pathfinder.specs.declared.Phase.{Phase}
+use Rattle.restore_pathfinder.specs.declared.Phase.the-variants.{Ready, Waiting, Stopped}
+use Rattle.restore_pathfinder.proofs.Phase.{the-type}
+use Rattle.restore_pathfinder.specs.declared.Job.{Job}
+use Rattle.restore_pathfinder.specs.declared.Opening.the-variants.{Accepted, Refused as NotOpened}
+use Rattle.restore_pathfinder.specs.declared.Step.the-variants.{Done, Refused as NoStep}
+use Rattle.restore_pathfinder.specs.declared.Stepped.{Stepped}
+use Rattle.restore_pathfinder.specs.declared.Outcome.the-variants.{Written as Marked, Failure}
+use Rattle.restore_pathfinder.specs.declared.Answer.{Answer}
+use Rattle.restore_pathfinder.specs.declared.Answer.the-variants.{Taken, Refused}
+use Rattle.restore_pathfinder.specs.declared.Heard.{Heard}
+use Rattle.restore_pathfinder.specs.declared.First.the-variants.{At, Nothing}
+use Rattle.restore_pathfinder.specs.Calls.{phaseOf, machine, openingOf, openedAs, openOf, firstOf, sentOf, stepFor, nextOf, roomFor, roomOf, answerOf, readAs, heardAs, heardOf}
+
+-- ---- open
+
+module _ (o w : List ℤ) where
+  pub misshapen : shapely pathfinder o w ≡ false → NotOpened (refusedWith shape) ≡ openingOf (opening pathfinder o w)
+  unfolding opening
+  misshapen h = rw h
+
+  module _ (shapes : shapely pathfinder o w ≡ true) where
+    -- 50 words and 15 values
+    pub lengths : (length o ≡ 50) × (length w ≡ 15)
+    lengths =
+        let typed : Bool = every 15 (λ n. pathfinder .fitsType n (at o n)) in
+        let a = both (eqb (length o) 50) (eqb (length w) 15 && typed) shapes in
+        let b = both (eqb (length w) 15) typed (a .1) in
+        (eqb-true (length o) 50 (a .0), eqb-true (length w) 15 (b .0))
+
+    pub out-of-range : ranged pathfinder w ≡ false → NotOpened (refusedWith range) ≡ openingOf (opening pathfinder o w)
+    unfolding opening
+    out-of-range h = rw (shapes, h)
+
+    module _ (values : ranged pathfinder w ≡ true) where
+      pub wanted-crossed : sides slots w ≡ false → NotOpened (refusedWith wantedPair) ≡ openingOf (opening pathfinder o w)
+      unfolding opening
+      wanted-crossed h = rw (shapes, values, h)
+
+      module _ (wanted : sides slots w ≡ true) where
+        pub present-crossed : sides slots o ≡ false → NotOpened (refusedWith presentPair) ≡ openingOf (opening pathfinder o w)
+        unfolding opening
+        present-crossed h = rw (shapes, values, wanted, h)
+
+        pub accepted : sides slots o ≡ true → Accepted ≡ openingOf (opening pathfinder o w)
+        unfolding opening
+        accepted h = rw (shapes, values, wanted, h)
+
+  -- the other way
+  pub is-refused : (why : Refusal) → NotOpened why ≡ openingOf (opening pathfinder o w) → openedAs (unopened why) ≡ openOf o w
+  is-refused why e = go (opening pathfinder o w) e
+    where
+      go : (x : Opened) → NotOpened why ≡ openingOf x → openedAs (unopened why) ≡ openedAs x
+      go (opened m) q = let z : _≡_ {A = ℕ} 0 1 = cc in absurd (omega arith)
+      go (unopened n) q = let h : why ≡ n = cc in rw h
+
+  pub is-opened : Accepted ≡ openingOf (opening pathfinder o w) → (shapely pathfinder o w ≡ true) × (opening pathfinder o w ≡ opened (M.jobOf o w M.ready))
+  unfolding opening
+  is-opened e = go (shapely pathfinder o w) (ranged pathfinder w) (sides slots w) (sides slots o) e
+    where
+      j : M.Job
+      j = M.jobOf o w M.ready
+
+      go : (a b c d : Bool) → Accepted ≡ openingOf (inOrder a b c d j) → (a ≡ true) × (inOrder a b c d j ≡ opened j)
+      go true true true true q = (refl, refl)
+      go true true true false q = let z : _≡_ {A = ℕ} 0 1 = cc in absurd (omega arith)
+      go true true false d q = let z : _≡_ {A = ℕ} 0 1 = cc in absurd (omega arith)
+      go true false c d q = let z : _≡_ {A = ℕ} 0 1 = cc in absurd (omega arith)
+      go false b c d q = let z : _≡_ {A = ℕ} 0 1 = cc in absurd (omega arith)
+
+-- ---- next
+
+module _ (j : Job) (out : List ℕ) where
+  -- by what the machine asks
+  by-asked : (a : M.Asked) → M.asked slots (length out) (machine j) ≡ a → (stepFor j (length out) a ≡ nextOf j (length out)) × (roomFor a out ≡ roomOf j out)
+  by-asked a e = (ap (stepFor j (length out)) (sym e), ap (λ (x : M.Asked). roomFor x out) (sym e))
+
+  module _ (p w : List ℤ) where
+    idle : (ph : Phase) → OneOf (1 ∷ 2 ∷ []) (tagOf the-type ph) → M.askedIn slots (length out) p w (phaseOf ph) ≡ M.declined (refusedWith turn)
+    idle Ready h = absurd (⊎-elim (λ e. omega arith) (λ e. omega arith) h)
+    idle (Waiting r) h = refl
+    idle Stopped h = refl
+
+    none-offered : (ws : List ℕ) → firstOf ws ≡ Nothing → M.offered (length out) w ws ≡ M.done
+    none-offered [] e = refl
+    none-offered (r ∷ rest) e = cc
+
+    first-offered : (ws : List ℕ) (r : ℕ) → firstOf ws ≡ At r → M.offered (length out) w ws ≡ M.unless (ltb (length out) 11) r (at w r)
+    first-offered [] r e = let z : _≡_ {A = ℕ} 0 1 = cc in absurd (omega arith)
+    first-offered (x ∷ rest) r e = let q : x ≡ r = cc in rw q
+
+  pub out-of-turn : OneOf (1 ∷ 2 ∷ []) (tagOf the-type (j .phase))
+      → (_≡_ {A = Stepped} (record { step = NoStep (refusedWith turn); job = j }) (nextOf j (length out))) × (out ≡ roomOf j out)
+  out-of-turn h = by-asked (M.declined (refusedWith turn)) (idle (j .present) (j .wanted) (j .phase) h)
+
+  module _ (between : j .phase ≡ Ready) where
+    pub nothing-to-write : firstOf (writes slots (j .present) (j .wanted)) ≡ Nothing
+        → (_≡_ {A = Stepped} (record { step = Done; job = j }) (nextOf j (length out))) × (out ≡ roomOf j out)
+    nothing-to-write e = by-asked M.done (rw between (none-offered (j .present) (j .wanted) (writes slots (j .present) (j .wanted)) e))
+
+    module _ (r : ℕ) (first : firstOf (writes slots (j .present) (j .wanted)) ≡ At r) where
+      asks : (b : Bool) → ltb (length out) 11 ≡ b → M.asked slots (length out) (machine j) ≡ M.unless b r (at (j .wanted) r)
+      asks b e =
+          rw between
+          (first-offered (j .present) (j .wanted) (writes slots (j .present) (j .wanted)) r first ∙ ap (λ (t : Bool). M.unless t r (at (j .wanted) r)) e)
+
+      pub no-room : length out < 11 → (_≡_ {A = Stepped} (record { step = NoStep (refusedWith room); job = j }) (nextOf j (length out))) × (out ≡ roomOf j out)
+      no-room h = by-asked (M.declined (refusedWith room)) (asks true (lt-ltb (length out) 11 h))
+
+      -- one write: what the writer of requests gives for it
+      pub one-write : 11 ≤ length out → (written : Written) → written ≡ sentAs (Write r (at (j .wanted) r)) (length out)
+          → (sentOf j (record { present = j .present; wanted = j .wanted; phase = Waiting r }) written ≡ nextOf j (length out))
+          × (roomAfter written (Write r (at (j .wanted) r)) out ≡ roomOf j out)
+      one-write h written e = rw e (by-asked (M.write r (at (j .wanted) r)) (asks false (le-ltb (length out) 11 h)))
+
+-- ---- reply
+
+-- what reply's answer says of what was read
+refused-read : (a : M.Answer) (why : Refusal) → answerOf a ≡ Refused why → a ≡ M.refused why
+refused-read M.success why e = let z : _≡_ {A = ℕ} 0 1 = cc in absurd (omega arith)
+refused-read (M.failure c) why e = let z : _≡_ {A = ℕ} 0 1 = cc in absurd (omega arith)
+refused-read (M.refused n) why e = let q : n ≡ why = cc in ap M.refused q
+
+success-read : (a : M.Answer) → answerOf a ≡ Taken Marked → a ≡ M.success
+success-read M.success e = refl
+success-read (M.failure c) e = let z : _≡_ {A = ℕ} 0 1 = cc in absurd (omega arith)
+success-read (M.refused n) e = let z : _≡_ {A = ℕ} 0 1 = cc in absurd (omega arith)
+
+failure-read : (a : M.Answer) (code : ℕ) → answerOf a ≡ Taken (Failure code) → a ≡ M.failure code
+failure-read M.success code e = let z : _≡_ {A = ℕ} 0 1 = cc in absurd (omega arith)
+failure-read (M.failure c) code e = let q : c ≡ code = cc in ap M.failure q
+failure-read (M.refused n) code e = let z : _≡_ {A = ℕ} 0 1 = cc in absurd (omega arith)
+
+-- 14, before the reply is read
+pub not-waiting : (p w : List ℤ) (ph : Phase) (s : List ℕ) → OneOf (0 ∷ 2 ∷ []) (tagOf the-type ph)
+    → _≡_ {A = Heard} (record { answer = Refused (refusedWith turn); job = record { present = p; wanted = w; phase = ph } })
+    (heardOf (record { present = p; wanted = w; phase = ph }) s)
+not-waiting p w Ready s h = refl
+not-waiting p w (Waiting r) s h = absurd (⊎-elim (λ e. omega arith) (λ e. omega arith) h)
+not-waiting p w Stopped s h = refl
+
+module _ (p w : List ℤ) (r : ℕ) (s : List ℕ) where
+  abbrev waits : Job
+  waits = record { present = p; wanted = w; phase = Waiting r }
+
+  pub reply-refused : (answer : Answer) (why : Refusal) → answer ≡ answerOf (readAs s) → answer ≡ Refused why
+      → _≡_ {A = Heard} (record { answer = answer; job = waits }) (heardOf waits s)
+  reply-refused answer why e h =
+      rw (h) (ap (heardAs waits) (sym (refused-read (readAs s) why (sym e ∙ h))))
+
+  pub register-written : (answer : Answer) → answer ≡ answerOf (readAs s) → answer ≡ Taken Marked
+      → _≡_ {A = Heard} (record { answer = Taken Marked; job = record { present = put p w r; wanted = w; phase = Ready } }) (heardOf waits s)
+  register-written answer e h = ap (heardAs waits) (sym (success-read (readAs s) (sym e ∙ h)))
+
+  pub device-failed : (answer : Answer) (code : ℕ) → answer ≡ answerOf (readAs s) → answer ≡ Taken (Failure code)
+      → _≡_ {A = Heard} (record { answer = Taken (Failure code); job = record { present = p; wanted = w; phase = Stopped } }) (heardOf waits s)
+  device-failed answer code e h = ap (heardAs waits) (sym (failure-read (readAs s) code (sym e ∙ h)))
