@@ -162,19 +162,24 @@ not-waiting p w Ready s h = refl
 not-waiting p w (Waiting r) s h = absurd (⊎-elim (λ e. omega arith) (λ e. omega arith) h)
 not-waiting p w Stopped s h = refl
 
-module _ (p w : List ℤ) (r : ℕ) (s : List ℕ) where
-  abbrev waits : Job
-  waits = record { present = p; wanted = w; phase = Waiting r }
+module _ (p w : List ℤ) (ph : Phase) (r : ℕ) (waits : ph ≡ Waiting r) (s : List ℕ) (answer : Answer) (read : answer ≡ answerOf (readAs s)) where
+  abbrev job : Job
+  job = record { present = p; wanted = w; phase = ph }
 
-  pub reply-refused : (answer : Answer) (why : Refusal) → answer ≡ answerOf (readAs s) → answer ≡ Refused why
-      → _≡_ {A = Heard} (record { answer = answer; job = waits }) (heardOf waits s)
-  reply-refused answer why e h =
-      rw (h) (ap (heardAs waits) (sym (refused-read (readAs s) why (sym e ∙ h))))
+  -- what the machine hears decides
+  by-heard : (a : M.Answer) → readAs s ≡ a → heardAs (record { present = p; wanted = w; phase = Waiting r }) a ≡ heardOf job s
+  by-heard a e = rw waits (ap (heardAs (record { present = p; wanted = w; phase = Waiting r })) (sym e))
 
-  pub register-written : (answer : Answer) → answer ≡ answerOf (readAs s) → answer ≡ Taken Marked
-      → _≡_ {A = Heard} (record { answer = Taken Marked; job = record { present = put p w r; wanted = w; phase = Ready } }) (heardOf waits s)
-  register-written answer e h = ap (heardAs waits) (sym (success-read (readAs s) (sym e ∙ h)))
+  pub reply-refused : (why : Refusal) → answer ≡ Refused why → _≡_ {A = Heard} (record { answer = answer; job = job }) (heardOf job s)
+  reply-refused why h = rw h (ap (λ (x : Phase). heardIn x why) waits ∙ by-heard (M.refused why) (refused-read (readAs s) why (sym read ∙ h)))
+    where
+      heardIn : Phase → Refusal → Heard
+      heardIn x n = record { answer = Refused n; job = record { present = p; wanted = w; phase = x } }
 
-  pub device-failed : (answer : Answer) (code : ℕ) → answer ≡ answerOf (readAs s) → answer ≡ Taken (Failure code)
-      → _≡_ {A = Heard} (record { answer = Taken (Failure code); job = record { present = p; wanted = w; phase = Stopped } }) (heardOf waits s)
-  device-failed answer code e h = ap (heardAs waits) (sym (failure-read (readAs s) code (sym e ∙ h)))
+  pub register-written : answer ≡ Taken Marked
+      → _≡_ {A = Heard} (record { answer = Taken Marked; job = record { present = put p w r; wanted = w; phase = Ready } }) (heardOf job s)
+  register-written h = by-heard M.success (success-read (readAs s) (sym read ∙ h))
+
+  pub device-failed : (code : ℕ) → answer ≡ Taken (Failure code)
+      → _≡_ {A = Heard} (record { answer = Taken (Failure code); job = record { present = p; wanted = w; phase = Stopped } }) (heardOf job s)
+  device-failed code h = by-heard (M.failure code) (failure-read (readAs s) code (sym read ∙ h))

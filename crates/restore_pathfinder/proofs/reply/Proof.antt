@@ -1,3 +1,6 @@
+use mathlib.Core.Path.{_≡_, refl, sym, ap, ap₂, _∙_}
+use Rattle.restore_pathfinder.specs.declared.Answer.the-variants.{Taken}
+use Rattle.restore_pathfinder.proofs.Steps.{not-waiting, reply-refused, register-written, device-failed}
 use borrow.Author.Needs.{needs}
 use Rattle.restore_pathfinder.proofs.reply.Statement.{statement}
 use Rattle.restore_pathfinder.proofs.reply.Tie as tie
@@ -18,7 +21,9 @@ refuse-requires c κs = search needs
 
 -- src/lib.rt:141:9
 returns : tie.Need-returns
-returns c = ?
+returns c =
+    let a = c .before .before .before .args in
+    rw (c .refuse .ensures) (not-waiting (a .job .present) (a .job .wanted) (a .job .phase) (a .s .now) (c .before .match .keys2))
 
 -- src/lib.rt:146:9
 decode-requires : tie.Need-decode-requires
@@ -34,7 +39,11 @@ enum-told c = search needs
 
 -- src/lib.rt:149:9
 returns-2 : tie.Need-returns-2
-returns-2 c = ?
+returns-2 c =
+    let a = c .before .before .before .before .before .before .before .args in
+    let d = c .before .before in
+    reply-refused (a .job .present) (a .job .wanted) (a .job .phase) (d .before .before .phase .given .0 .0) (d .before .before .phase .given .1) (a .s .now)
+    (d .decode .result) (d .decode .ensures) (c .enum-told .given .0 .0) (c .enum-told .given .1)
 
 -- src/lib.rt:154:18
 enum-told-2 : tie.Need-enum-told-2
@@ -54,11 +63,25 @@ stopped-requires c κs = search needs
 
 -- src/lib.rt:136:1
 returns-3 : tie.Need-returns-3
-returns-3 c = ?
+returns-3 c =
+    let x = c .before .before .before .before in
+    let d = x .before .before in
+    let a = d .before .before .before .before .before .args in
+    let e = c .before .enum-told2 .given .1 in
+    rw (c .marked .ensures, e)
+    (register-written (a .job .present) (a .job .wanted) (a .job .phase) (d .before .before .phase .given .0 .0) (d .before .before .phase .given .1) (a .s .now)
+    (d .decode .result) (d .decode .ensures) (x .answer .given .1 ∙ ap Taken e))
 
 -- src/lib.rt:136:1
 returns-4 : tie.Need-returns-4
-returns-4 c = ?
+returns-4 c =
+    let x = c .before .before .before .before in
+    let d = x .before .before in
+    let a = d .before .before .before .before .before .args in
+    let e = c .before .enum-told3 .given .1 in
+    rw (c .stopped .ensures, e)
+    (device-failed (a .job .present) (a .job .wanted) (a .job .phase) (d .before .before .phase .given .0 .0) (d .before .before .phase .given .1) (a .s .now)
+    (d .decode .result) (d .decode .ensures) (c .before .enum-told3 .given .0 .0) (x .answer .given .1 ∙ ap Taken e))
 
 pub reply-spec : {M : Type 1} → statement M
 reply-spec =
