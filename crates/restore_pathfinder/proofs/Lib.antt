@@ -1,4 +1,2 @@
-pub mod Loops
-pub mod Numbers
-pub mod Slots
+pub mod Copies
 pub mod Steps

@@ -1,95 +1,49 @@
 -- The ways out of each call, each from the facts that the code has there; in order: open, next, reply.
--- The ladder of an opening by its tests; next and reply by the phase, then by what the machine asks or hears. Assumes nothing.
+-- A refused opening by its verdict; next and reply by the phase, then by what the machine asks or hears. Assumes nothing.
 use mathlib.Core.Path.{_≡_, refl, sym, ap, _∙_}
-use mathlib.Core.Bool.{Bool, true, false, _&&_}
+use mathlib.Core.Bool.{Bool, true, false}
 use mathlib.Core.List.{List, [], _∷_}
 use mathlib.Core.Logic.{⊎-elim}
 use Prim.Native.Nat.{ℕ, _<_, _≤_}
 use native.Mathlib.Omega.{arith}
 use lib.IntN.{ℤ}
-use lib.Dec.{eqb, ltb}
+use lib.Dec.{ltb}
 use lib.ListN.{length}
 use types.Run.{OneOf}
 use denote.Enum.Declared.{tagOf}
-use borrow.Author.Tests.{eqb-true, lt-ltb, le-ltb}
-use Rattle.laws.proofs.Ladders.{both}
+use borrow.Author.Tests.{lt-ltb, le-ltb}
 use Rattle.refusals.specs.declared.Refusal.{Refusal}
-use Rattle.refusals.specs.Refused.{refusedWith, shape, range, room, turn, wantedPair, presentPair}
+use Rattle.refusals.specs.Refused.{refusedWith, room, turn}
 use Rattle.requests_pathfinder.specs.declared.Request.the-variants.{Write}
 use Rattle.requests_pathfinder.specs.declared.Written.{Written}
 use Rattle.requests_pathfinder.specs.Requests.{sentAs, roomAfter}
-use Rattle.restore_order.specs.Slots.{slots, at, writes, sides, put}
+use Rattle.restore_order.specs.Slots.{slots, at, writes, put}
 use Rattle.restore_order.specs.Machine as M
-use Rattle.restore_order.specs.Opening.{pathfinder, every, Opened, opened, unopened, inOrder, shapely, ranged, opening}
+use Rattle.restore_order.specs.Opening.{pathfinder, Opened, opened, unopened, opening}
+use Rattle.restore_rules.specs.declared.Verdict.the-variants.{Refused as NotAccepted}
+use Rattle.restore_rules.specs.declared.First.the-variants.{At, Nothing}
+use Rattle.restore_rules.specs.Rules.{verdictOf, firstOf}
 use Rattle.restore_pathfinder.specs.declared.Phase.{Phase}
 use Rattle.restore_pathfinder.specs.declared.Phase.the-variants.{Ready, Waiting, Stopped}
 use Rattle.restore_pathfinder.proofs.Phase.{the-type}
 use Rattle.restore_pathfinder.specs.declared.Job.{Job}
-use Rattle.restore_pathfinder.specs.declared.Opening.the-variants.{Accepted, Refused as NotOpened}
 use Rattle.restore_pathfinder.specs.declared.Step.the-variants.{Done, Refused as NoStep}
 use Rattle.restore_pathfinder.specs.declared.Stepped.{Stepped}
 use Rattle.restore_pathfinder.specs.declared.Outcome.the-variants.{Written as Marked, Failure}
 use Rattle.restore_pathfinder.specs.declared.Answer.{Answer}
 use Rattle.restore_pathfinder.specs.declared.Answer.the-variants.{Taken, Refused}
 use Rattle.restore_pathfinder.specs.declared.Heard.{Heard}
-use Rattle.restore_pathfinder.specs.declared.First.the-variants.{At, Nothing}
-use Rattle.restore_pathfinder.specs.Calls.{phaseOf, machine, openingOf, openedAs, openOf, firstOf, sentOf, stepFor, nextOf, roomFor, roomOf, answerOf, readAs, heardAs, heardOf}
+use Rattle.restore_pathfinder.specs.Calls.{phaseOf, machine, openedAs, openOf, sentOf, stepFor, nextOf, roomFor, roomOf, answerOf, readAs, heardAs, heardOf}
 
 -- ---- open
 
 module _ (o w : List ℤ) where
-  pub misshapen : shapely pathfinder o w ≡ false → NotOpened (refusedWith shape) ≡ openingOf (opening pathfinder o w)
-  unfolding opening
-  misshapen h = rw h
-
-  module _ (shapes : shapely pathfinder o w ≡ true) where
-    -- 50 words and 15 values
-    pub lengths : (length o ≡ 50) × (length w ≡ 15)
-    lengths =
-        let typed : Bool = every 15 (λ n. pathfinder .fitsType n (at o n)) in
-        let a = both (eqb (length o) 50) (eqb (length w) 15 && typed) shapes in
-        let b = both (eqb (length w) 15) typed (a .1) in
-        (eqb-true (length o) 50 (a .0), eqb-true (length w) 15 (b .0))
-
-    pub out-of-range : ranged pathfinder w ≡ false → NotOpened (refusedWith range) ≡ openingOf (opening pathfinder o w)
-    unfolding opening
-    out-of-range h = rw (shapes, h)
-
-    module _ (values : ranged pathfinder w ≡ true) where
-      pub wanted-crossed : sides slots w ≡ false → NotOpened (refusedWith wantedPair) ≡ openingOf (opening pathfinder o w)
-      unfolding opening
-      wanted-crossed h = rw (shapes, values, h)
-
-      module _ (wanted : sides slots w ≡ true) where
-        pub present-crossed : sides slots o ≡ false → NotOpened (refusedWith presentPair) ≡ openingOf (opening pathfinder o w)
-        unfolding opening
-        present-crossed h = rw (shapes, values, wanted, h)
-
-        pub accepted : sides slots o ≡ true → Accepted ≡ openingOf (opening pathfinder o w)
-        unfolding opening
-        accepted h = rw (shapes, values, wanted, h)
-
-  -- the other way
-  pub is-refused : (why : Refusal) → NotOpened why ≡ openingOf (opening pathfinder o w) → openedAs (unopened why) ≡ openOf o w
+  pub is-refused : (why : Refusal) → NotAccepted why ≡ verdictOf (opening pathfinder o w) → openedAs (unopened why) ≡ openOf o w
   is-refused why e = go (opening pathfinder o w) e
     where
-      go : (x : Opened) → NotOpened why ≡ openingOf x → openedAs (unopened why) ≡ openedAs x
+      go : (x : Opened) → NotAccepted why ≡ verdictOf x → openedAs (unopened why) ≡ openedAs x
       go (opened m) q = let z : _≡_ {A = ℕ} 0 1 = cc in absurd (omega arith)
       go (unopened n) q = let h : why ≡ n = cc in rw h
-
-  pub is-opened : Accepted ≡ openingOf (opening pathfinder o w) → (shapely pathfinder o w ≡ true) × (opening pathfinder o w ≡ opened (M.jobOf o w M.ready))
-  unfolding opening
-  is-opened e = go (shapely pathfinder o w) (ranged pathfinder w) (sides slots w) (sides slots o) e
-    where
-      j : M.Job
-      j = M.jobOf o w M.ready
-
-      go : (a b c d : Bool) → Accepted ≡ openingOf (inOrder a b c d j) → (a ≡ true) × (inOrder a b c d j ≡ opened j)
-      go true true true true q = (refl, refl)
-      go true true true false q = let z : _≡_ {A = ℕ} 0 1 = cc in absurd (omega arith)
-      go true true false d q = let z : _≡_ {A = ℕ} 0 1 = cc in absurd (omega arith)
-      go true false c d q = let z : _≡_ {A = ℕ} 0 1 = cc in absurd (omega arith)
-      go false b c d q = let z : _≡_ {A = ℕ} 0 1 = cc in absurd (omega arith)
 
 -- ---- next
 

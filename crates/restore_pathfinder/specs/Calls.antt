@@ -1,13 +1,10 @@
 -- What each call of a restore gives (01, Restore): a step of the machine of `restore_order` on the job, and the step as this crate's types say it.
 -- Number and values of each case stand here: a frame's bytes are those that the request writer gives for request 0E.
-use mathlib.Core.Bool.{Bool, _&&_}
-use mathlib.Core.List.{List, [], _∷_}
+use mathlib.Core.List.{List}
 use Prim.Native.Nat.{ℕ}
 use lib.IntN.{ℤ, pos}
 use lib.ListN.{length, replicate}
-use Rattle.laws.specs.Choice.{pick}
 use Rattle.refusals.specs.Refused.{refusedWith, request}
-use Rattle.registers_pathfinder.specs.Registers.{fitsType, inRange}
 use Rattle.records_pathfinder.specs.declared.Reply.{Reply}
 use Rattle.records_pathfinder.specs.declared.Reply.the-variants.{Words, Name, Written as IsWritten, Failure as IsFailure, Refused as IsRefused}
 use Rattle.records_pathfinder.specs.Replies.{replyOf}
@@ -21,7 +18,6 @@ use Rattle.restore_order.specs.Opening as O
 use Rattle.restore_pathfinder.specs.declared.Phase.{Phase}
 use Rattle.restore_pathfinder.specs.declared.Phase.the-variants.{Ready, Waiting, Stopped}
 use Rattle.restore_pathfinder.specs.declared.Job.{Job}
-use Rattle.restore_pathfinder.specs.declared.Opening.{Opening}
 use Rattle.restore_pathfinder.specs.declared.Opening.the-variants.{Accepted, Refused as NotOpened}
 use Rattle.restore_pathfinder.specs.declared.Opened.{Opened}
 use Rattle.restore_pathfinder.specs.declared.Step.{Step}
@@ -31,8 +27,6 @@ use Rattle.restore_pathfinder.specs.declared.Outcome.the-variants.{Writt
 use Rattle.restore_pathfinder.specs.declared.Answer.{Answer}
 use Rattle.restore_pathfinder.specs.declared.Answer.the-variants.{Taken, Refused}
 use Rattle.restore_pathfinder.specs.declared.Heard.{Heard}
-use Rattle.restore_pathfinder.specs.declared.First.{First}
-use Rattle.restore_pathfinder.specs.declared.First.the-variants.{At, Nothing}
 
 -- ---- the job
 
@@ -56,10 +50,6 @@ held m = record { present = m .present; wanted = m .wanted; phase = heldPhase (m
 
 -- ---- open
 
-abbrev pub openingOf : O.Opened → Opening
-openingOf (O.opened m) = Accepted
-openingOf (O.unopened why) = NotOpened why
-
 -- the job that comes with a refusal: nothing is wanted, and nothing goes on
 abbrev pub noJob : Job
 noJob = record { present = replicate 50 (pos 0); wanted = replicate 15 (pos 0); phase = Stopped }
@@ -71,16 +61,7 @@ openedAs (O.unopened why) = record { opening = NotOpened why; job = noJob }
 abbrev pub openOf : List ℤ → List ℤ → Opened
 openOf o w = openedAs (O.opening O.pathfinder o w)
 
--- what each of the fifteen values must be: of its setting's type, and a wanted one in its register's range too
-abbrev pub fits : Bool → ℕ → ℤ → Bool
-fits wanted n v = pick wanted (inRange n v && fitsType n v) (fitsType n v)
-
 -- ---- next
-
--- the first of the writes to come
-abbrev pub firstOf : List ℕ → First
-firstOf [] = Nothing
-firstOf (r ∷ rest) = At r
 
 -- the writer's answer: its frame, and the job then waits; or its refusal, with the job as it was
 abbrev pub sentOf : Job → Job → Written → Stepped

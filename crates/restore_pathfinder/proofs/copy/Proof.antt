@@ -1,8 +1,8 @@
 use lib.ListN.{length-set}
 use lib.Seq.{take-all}
 use Rattle.restore_order.specs.Slots.{at}
-use Rattle.restore_pathfinder.proofs.Numbers.{from-bits}
-use Rattle.restore_pathfinder.proofs.Loops.{copied-more}
+use Rattle.restore_rules.proofs.Numbers.{from-bits}
+use Rattle.restore_pathfinder.proofs.Copies.{copied-more}
 use mathlib.Core.Path.{_≡_, refl, sym, ap, ap₂, _∙_}
 use native.Mathlib.Omega.{arith}
 use Prim.Native.Nat.{ℕ, _+_, _-_, _≤_}

@@ -3,7 +3,7 @@ use native.Mathlib.Omega.{arith}
 use lib.ListN.{length}
 use lib.Seq.{set-out}
 use Rattle.restore_order.specs.Slots.{at}
-use Rattle.restore_pathfinder.proofs.Numbers.{from-bits}
+use Rattle.restore_rules.proofs.Numbers.{from-bits}
 use borrow.Author.Needs.{needs}
 use Rattle.restore_pathfinder.proofs.marked.Statement.{statement}
 use Rattle.restore_pathfinder.proofs.marked.Tie as tie

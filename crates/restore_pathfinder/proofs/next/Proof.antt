@@ -5,7 +5,7 @@ use mir.Val.{ofZ, toZ}
 use Rattle.requests_pathfinder.specs.declared.Request.the-variants.{Write}
 use Rattle.requests_pathfinder.specs.Requests.{sentAs, roomAfter}
 use Rattle.restore_order.specs.Slots.{at}
-use Rattle.restore_pathfinder.proofs.Numbers.{from-bits}
+use Rattle.restore_rules.proofs.Numbers.{from-bits}
 use mathlib.Core.Path.{_≡_, refl, sym, ap, ap₂, _∙_}
 use Rattle.restore_pathfinder.proofs.Steps.{out-of-turn, nothing-to-write, no-room, one-write}
 use borrow.Author.Needs.{needs}
@@ -15,7 +15,7 @@ use Rattle.restore_pathfinder.proofs.next.Reads as reads
 use Rattle.restore_pathfinder.proofs.next.Lts as lts
 use Rattle.requests_pathfinder.proofs.write_request.Reads as write-request-reads
 use Rattle.restore_pathfinder.proofs.declined.Reads as declined-reads
-use Rattle.restore_pathfinder.proofs.first_write.Reads as first-write-reads
+use Rattle.restore_rules.proofs.first_write.Reads as first-write-reads
 use Rattle.restore_pathfinder.proofs.sent.Reads as sent-reads
 use Rattle.restore_pathfinder.proofs.value_of.Reads as value-of-reads
 

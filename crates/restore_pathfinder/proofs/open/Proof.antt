@@ -5,14 +5,15 @@ use lib.IntN.{ℤ}
 use Rattle.restore_order.specs.Machine.{jobOf, ready}
 use Rattle.restore_order.specs.Opening.{pathfinder, opened, shapely, opening}
 use Rattle.restore_pathfinder.specs.Calls.{openedAs}
-use Rattle.restore_pathfinder.proofs.Steps.{lengths, is-refused, is-opened}
+use Rattle.restore_pathfinder.proofs.Steps.{is-refused}
+use Rattle.restore_rules.proofs.Judging.{lengths, is-opened}
 use borrow.Author.Needs.{needs}
 use Rattle.restore_pathfinder.proofs.open.Statement.{statement}
 use Rattle.restore_pathfinder.proofs.open.Tie as tie
 use Rattle.restore_pathfinder.proofs.open.Reads as reads
 use Rattle.restore_pathfinder.proofs.open.Lts as lts
 use Rattle.restore_pathfinder.proofs.copy.Reads as copy-reads
-use Rattle.restore_pathfinder.proofs.judged.Reads as judged-reads
+use Rattle.restore_rules.proofs.judge.Reads as judge-reads
 use Rattle.restore_pathfinder.proofs.not_opened.Reads as not-opened-reads
 
 -- src/lib.rt:87:36
@@ -23,10 +24,10 @@ passed : (c : tie.After-enum-told)
     ≡ opened (jobOf (c .before .before .before .args .present .now) (c .before .before .before .args .wanted .now) ready))
 passed c =
     let a = c .before .before .before .args in
-    is-opened (a .present .now) (a .wanted .now) (sym (c .enum-told .given .1) ∙ c .before .before .judged .ensures)
+    is-opened (a .present .now) (a .wanted .now) (sym (c .enum-told .given .1) ∙ c .before .before .judge .ensures)
 
-judged-requires : tie.Need-judged-requires
-judged-requires c κs = search needs
+judge-requires : tie.Need-judge-requires
+judge-requires c κs = search needs
 
 -- src/lib.rt:87:29
 enum-known-why : tie.Need-enum-known-why
@@ -42,7 +43,7 @@ returns c =
     let a = c .before .before .before .before .before .args in
     c .not-opened .ensures
     ∙ is-refused (a .present .now) (a .wanted .now) (c .before .before .why .given .0 .0)
-    (sym (c .before .before .why .given .1) ∙ c .before .before .before .before .judged .ensures)
+    (sym (c .before .before .why .given .1) ∙ c .before .before .before .before .judge .ensures)
 
 enum-told : tie.Need-enum-told
 enum-told c = search needs
@@ -77,7 +78,7 @@ pub open-spec : {M : Type 1} → statement M
 open-spec =
     tie.close
     (tie.spec
-    judged-requires
+    judge-requires
     enum-known-why
     not-opened-requires
     returns
