@@ -1,6 +1,11 @@
 # Read by the scripts in tests/: goes to the repository's root and builds the independent decoder's programs.
-# Afterwards $programs is the folder they are in, and $console the console to be tested: $CONSOLE if that is set,
+# Afterwards $programs is the folder they are in. need_console makes $console the console to be tested: $CONSOLE if set,
 # else the one that the toolchain builds.
+
+case ${CONSOLE:-/} in
+    /*) ;;
+    *) CONSOLE=$PWD/$CONSOLE ;;
+esac
 
 cd "$(dirname "${BASH_SOURCE[0]}")/../.." || exit 2
 

@@ -19,11 +19,9 @@ pub fn answer(line: &[u8], bytes: &mut [u8], out: &mut [u8], at: usize) -> usize
     if let Call::None = call {
         return text::put_line(out, at, b"? unknown word");
     }
-    if !words::has(line, 2) {
-        return text::put_line(out, at, b"? too few words");
-    }
-    if words::has(line, 3) {
-        return text::put_line(out, at, b"? too many words");
+    let counted = words::count_is(line, 3);
+    if counted != 0 {
+        return text::put_count(out, at, counted);
     }
     let HexWord::Bytes(n) = words::hex(words::word(line, 2), bytes) else {
         return text::put_line(out, at, b"? not hex");

@@ -1,6 +1,7 @@
 // The console: one line in, one line out (docs/CONSOLE.md). It reads standard input to its end in pieces, gathers lines, has each
 // answered, and writes all answers that it has before it waits for more input.
 mod check_lines;
+mod pf_lines;
 mod text;
 mod words;
 
@@ -142,10 +143,12 @@ fn answer(line: &[u8], bytes: &mut [u8], out: &mut [u8], at: usize) -> usize {
         return at;
     }
     if check::same(first, b"check") {
-        check_lines::answer(line, bytes, out, at)
-    } else {
-        text::put_line(out, at, b"? unknown word")
+        return check_lines::answer(line, bytes, out, at);
     }
+    if check::same(first, b"pf") {
+        return pf_lines::answer(line, bytes, out, at);
+    }
+    text::put_line(out, at, b"? unknown word")
 }
 
 // Writes the answers where half of the room is used.

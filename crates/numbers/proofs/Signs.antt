@@ -66,12 +66,12 @@ half w64 = refl
 half w128 = refl
 
 -- a number that is not negative is its magnitude, and so are its bits
-up : (w : Width) (v : ℤ) → leZ (pos 0) v ≡ true → (v ≡ pos (mag v)) × (bitsOf (bits w) v ≡ mag v)
+pub up : (w : Width) (v : ℤ) → leZ (pos 0) v ≡ true → (v ≡ pos (mag v)) × (bitsOf (bits w) v ≡ mag v)
 up w (pos n) h = (refl, refl)
 up w (negsuc n) h = absurd (subst T (sym h) tt)
 
 -- of a negative one the bits turned over are its magnitude
-down : (w : Width) (v : ℤ) → SFits w v → leZ (pos 0) v ≡ false
+pub down : (w : Width) (v : ℤ) → SFits w v → leZ (pos 0) v ≡ false
     → (toZ w (2 ^ bits w - 1 - ofZ w v) ≡ pos (mag v)) × (bitsOf (bits w) v ≡ 2 ^ bits w - 1 - mag v)
 down w (pos n) f h = absurd (subst T (sym (leb·zero n) ∙ h) tt)
 down w (negsuc n) f h =

@@ -17,24 +17,12 @@ pub const FAILURES: [u8; 8] = [0x20, 0x21, 0x22, 0x23, 0x24, 0x26, 0x27, 0x2D];
 const OTHERS: [u8; 14] = [0x00, 0x06, 0x0D, 0x0F, 0x11, 0x16, 0x1F, 0x25, 0x28, 0x2C, 0x2E, 0x30, 0x8E, 0xFF];
 
 /// The least and the greatest value of each register (000, "Target register definitions").
+#[rustfmt::skip]
 pub const RANGES: [(i64, i64); 15] = {
     let (delay, degrees) = ((0, 255), (-40, 120));
     [
-        (0, 5000),
-        delay,
-        (0, 16),
-        degrees,
-        degrees,
-        delay,
-        degrees,
-        degrees,
-        delay,
-        degrees,
-        degrees,
-        delay,
-        degrees,
-        degrees,
-        delay,
+        (0, 5000), (0, 255), (0, 16), degrees, degrees, delay, degrees, degrees, delay, // 0 to 8
+        degrees, degrees, delay, degrees, degrees, delay, // 9 to 14
     ]
 };
 
@@ -244,10 +232,12 @@ fn parse(random: &mut Random) -> Draft {
 fn write(random: &mut Random) -> Draft {
     let errors = random.errors(&[7, 10, 8, 9, 11]);
     if random.one_in(2) {
-        let opcode = match random.below(4) {
-            _ if errors.has(7) => random.pick(&OTHERS),
-            _ if errors.has(8) => 0x0E,
-            _ => random.pick(&LISTED[..5]),
+        let opcode = if errors.has(7) {
+            random.pick(&OTHERS)
+        } else if errors.has(8) {
+            0x0E
+        } else {
+            random.pick(&LISTED[..5])
         };
         return Draft::of("pf write").number(random.room(6, errors.has(11)), random).word("ask").byte(opcode, random);
     }

@@ -13,24 +13,12 @@ use crate::restore::{PAIRS, PRESENT, SETTINGS};
 pub const AREA: Area = Area { name: "restore", chosen, start: || Box::new(Dialogue::Closed(6)) };
 
 /// The least and the greatest word of each setting's type.
+#[rustfmt::skip]
 const TYPES: [(i64, i64); SETTINGS] = {
     let (byte, degrees) = ((0, 255), (-128, 127));
     [
-        (-32_768, 32_767),
-        byte,
-        byte,
-        degrees,
-        degrees,
-        byte,
-        degrees,
-        degrees,
-        byte,
-        degrees,
-        degrees,
-        byte,
-        degrees,
-        degrees,
-        byte,
+        (-32_768, 32_767), byte, byte, degrees, degrees, byte, degrees, degrees, byte, // 0 to 8
+        degrees, degrees, byte, degrees, degrees, byte, // 9 to 14
     ]
 };
 

@@ -1,0 +1,49 @@
+-- A word narrowed to its row's type (01, Pathfinder): by its low bits, in two's complement for signed types. In reply 03 the largest value of a
+-- type, and the smallest of a signed type, mean "no data"; bitfields and bools are never missing. Assumes nothing.
+use Prim.Native.Nat.{ℕ, _-_, _%_, _^_}
+use mathlib.Core.Bool.{Bool, true, false, _&&_, _||_, not}
+use lib.Dec.{eqb}
+use lib.IntN.{ℤ, pos, _*ℤ_}
+use Rattle.laws.specs.Choice.{pick}
+use Rattle.refusals.specs.Refused.{refusedWith, request, shape}
+use Rattle.numbers.specs.Signed.{signedOf, bitsOf}
+use Rattle.rows_pathfinder.specs.declared.TenMillivolts.{TenMillivolts as Tens}
+use Rattle.rows_pathfinder.specs.declared.Millivolts.{Millivolts}
+use Rattle.rows_pathfinder.specs.declared.Row.{Row}
+use Rattle.rows_pathfinder.specs.declared.Row.the-variants.{Number, TenMillivolts, Truth, Missing, Refused}
+use Rattle.rows_pathfinder.specs.Types.{u8, i8, u16, i16, u32, i32, bool, tenMillivolts, bits, noRow, typeAt}
+
+-- counts of ten millivolts as millivolts
+abbrev pub millivoltsOf : Tens → Millivolts
+millivoltsOf v = record { 0 = v .0 *ℤ pos 10 }
+
+abbrev pub numberRow : Bool → ℤ → Row
+numberRow missing v = pick missing Missing (Number v)
+
+abbrev pub tenRow : Bool → ℕ → Row
+tenRow missing n = pick missing Missing (TenMillivolts (record { 0 = signedOf 15 n }))
+
+-- the largest value of k bits
+abbrev pub largest : ℕ → ℕ → Bool
+largest k n = eqb n (2 ^ k - 1)
+
+-- the largest and the smallest value of a sign and k bits, as bits
+abbrev pub extreme : ℕ → ℕ → Bool
+extreme k n = eqb n (2 ^ k - 1) || eqb n (2 ^ k)
+
+-- n is the word's 32 bits; `may` is whether extreme values mean no data
+unfoldable pub byBits : ℕ → Bool → ℕ → Row
+byBits t may n =
+    pick (eqb t u8) (numberRow (may && largest 8 (n % 256)) (pos (n % 256)))
+    (pick (eqb t i8) (numberRow (may && extreme 7 (n % 256)) (signedOf 7 (n % 256)))
+    (pick (eqb t u16) (numberRow (may && largest 16 (n % 65536)) (pos (n % 65536)))
+    (pick (eqb t i16) (numberRow (may && extreme 15 (n % 65536)) (signedOf 15 (n % 65536)))
+    (pick (eqb t u32) (numberRow (may && largest 32 n) (pos n))
+    (pick (eqb t i32) (numberRow (may && extreme 31 n) (signedOf 31 n))
+    (pick (eqb t bool) (Truth (not (eqb n 0)))
+    (pick (eqb t tenMillivolts) (tenRow (may && extreme 15 (n % 65536)) (n % 65536))
+    (pick (eqb t bits) (Number (pos n))
+    (pick (eqb t noRow) (Refused (refusedWith shape)) (Refused (refusedWith request)))))))))))
+
+unfoldable pub rowOf : ℕ → ℕ → ℤ → Row
+rowOf reply row w = byBits (typeAt reply row) (eqb reply 0x03) (bitsOf 32 w)
