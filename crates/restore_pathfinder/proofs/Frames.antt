@@ -3,14 +3,13 @@
 use mathlib.Core.Path.{_≡_, refl, sym, ap, _∙_}
 use mathlib.Core.Bool.{Bool, true, false, _&&_}
 use mathlib.Core.List.{List, [], _∷_, _++_}
-use Prim.Native.Nat.{ℕ, zero, suc, _+_, _<_, _≤_, _^_}
+use Prim.Native.Nat.{ℕ, _+_, _<_, _≤_, _^_}
 use native.Mathlib.Omega.{arith}
 use lib.IntN.{ℤ, pos, negsuc}
-use lib.Dec.{ltb, leb, eqb}
+use lib.Dec.{ltb}
 use lib.Signed.{mag, leZ}
 use lib.ListN.{length, getD, drop}
-use borrow.Author.Tests.{leb-true, ltb-true, ltb-false, eqb-true, eqb-false, lt-ltb, le-ltb}
-use Rattle.laws.specs.Choice.{pick}
+use borrow.Author.Tests.{leb-true, ltb-true, ltb-false, le-ltb}
 use Rattle.laws.proofs.Ladders.{both}
 use Rattle.numbers.specs.declared.Order.the-variants.{LowFirst}
 use Rattle.numbers.specs.Bytes.{bytesOf}
@@ -21,7 +20,7 @@ use Rattle.requests_pathfinder.specs.declared.Request.the-variants.{Write}
 use Rattle.requests_pathfinder.specs.declared.Parsed.the-variants.{Is}
 use Rattle.requests_pathfinder.specs.declared.Written.{Written}
 use Rattle.requests_pathfinder.specs.declared.Written.the-variants.{Frame as HasFrame, Refused as NoFrame}
-use Rattle.requests_pathfinder.specs.Requests.{setLoad, frameFor, faultOf, writtenAs, sentAs, roomAfter}
+use Rattle.requests_pathfinder.specs.Requests.{faultOf, writtenAs, sentAs}
 use Rattle.requests_pathfinder.specs.Reading.{requestOf}
 use Rattle.requests_pathfinder.proofs.RoundTrip.{written-reads-back-request}
 use Rattle.restore_order.specs.Slots.{slots, at, writes}
@@ -37,7 +36,7 @@ use Rattle.restore_pathfinder.specs.declared.Phase.the-variants.{Ready, 
 use Rattle.restore_pathfinder.specs.declared.Job.{Job}
 use Rattle.restore_pathfinder.specs.declared.Step.the-variants.{Frame}
 use Rattle.restore_pathfinder.specs.declared.Stepped.{Stepped}
-use Rattle.restore_pathfinder.specs.Calls.{phaseOf, machine, heldPhase, held, sentOf, stepFor, nextOf, roomFor, roomOf, readAs, heardOf}
+use Rattle.restore_pathfinder.specs.Calls.{phaseOf, machine, heldPhase, held, sentOf, stepFor, nextOf, roomOf, readAs, heardOf}
 use Rattle.restore_pathfinder.specs.Dialogues.{Call, next, reply, afterCall, afterCalls, Makes, Ranged}
 
 -- ---- a job is the machine's

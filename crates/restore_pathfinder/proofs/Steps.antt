@@ -25,7 +25,6 @@ use Rattle.restore_rules.specs.declared.First.the-variants.{At, Nothing}
 use Rattle.restore_rules.specs.Rules.{verdictOf, firstOf}
 use Rattle.restore_pathfinder.specs.declared.Phase.{Phase}
 use Rattle.restore_pathfinder.specs.declared.Phase.the-variants.{Ready, Waiting, Stopped}
-use Rattle.restore_pathfinder.proofs.Phase.{the-type}
 use Rattle.restore_pathfinder.specs.declared.Job.{Job}
 use Rattle.restore_pathfinder.specs.declared.Step.the-variants.{Done, Refused as NoStep}
 use Rattle.restore_pathfinder.specs.declared.Stepped.{Stepped}
@@ -34,6 +33,7 @@ use Rattle.restore_pathfinder.specs.declared.Answer.{Answer}
 use Rattle.restore_pathfinder.specs.declared.Answer.the-variants.{Taken, Refused}
 use Rattle.restore_pathfinder.specs.declared.Heard.{Heard}
 use Rattle.restore_pathfinder.specs.Calls.{phaseOf, machine, openedAs, openOf, sentOf, stepFor, nextOf, roomFor, roomOf, answerOf, readAs, heardAs, heardOf}
+use Rattle.restore_pathfinder.proofs.Phase.{the-type}
 
 -- ---- open
 

@@ -20,7 +20,6 @@ use Rattle.restore_pathfinder.specs.declared.Phase.the-variants.{Ready, 
 use Rattle.restore_pathfinder.specs.declared.Job.{Job}
 use Rattle.restore_pathfinder.specs.declared.Opening.the-variants.{Accepted, Refused as NotOpened}
 use Rattle.restore_pathfinder.specs.declared.Opened.{Opened}
-use Rattle.restore_pathfinder.specs.declared.Step.{Step}
 use Rattle.restore_pathfinder.specs.declared.Step.the-variants.{Frame, Done, Refused as NoStep}
 use Rattle.restore_pathfinder.specs.declared.Stepped.{Stepped}
 use Rattle.restore_pathfinder.specs.declared.Outcome.the-variants.{Written as Marked, Failure}

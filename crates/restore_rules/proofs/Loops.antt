@@ -1,15 +1,10 @@
 -- What the loops' proofs cite: a test of every number so far, a count so far.
 -- Assumes nothing.
-use mathlib.Core.Path.{_≡_, refl, sym, ap, _∙_}
+use mathlib.Core.Path.{_≡_, refl}
 use mathlib.Core.Bool.{Bool, true, false}
-use mathlib.Core.List.{List, [], _∷_, _++_}
 use Prim.Native.Nat.{ℕ, _+_, _<_}
-use native.Mathlib.Omega.{arith}
 use native.Mathlib.Numerals.{add-one}
-use lib.IntN.{ℤ, pos}
-use lib.ListN.{length, take, set}
-use lib.Seq.{take-suc, take-suc-set}
-use Rattle.restore_order.specs.Slots.{at, one, howMany}
+use Rattle.restore_order.specs.Slots.{one, howMany}
 use Rattle.restore_order.specs.Opening.{every}
 use Rattle.restore_order.proofs.Integers.{clash}
 use Rattle.restore_order.proofs.Openings.{every-at}

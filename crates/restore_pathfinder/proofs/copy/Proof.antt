@@ -1,17 +1,16 @@
-use lib.ListN.{length-set}
+-- `copy` meets its contract. The loop's invariant: what stands before i has been copied; each turn copies one more (`copied-more`).
+-- Assumes nothing.
+use mathlib.Core.Path.{_≡_, refl, sym, _∙_}
+use Prim.Native.Nat.{_-_, _≤_}
+use native.Mathlib.Omega.{arith}
+use lib.ListN.{length-set, length, take}
 use lib.Seq.{take-all}
+use borrow.Author.Needs.{needs}
 use Rattle.restore_order.specs.Slots.{at}
 use Rattle.restore_rules.proofs.Numbers.{from-bits}
 use Rattle.restore_pathfinder.proofs.Copies.{copied-more}
-use mathlib.Core.Path.{_≡_, refl, sym, ap, ap₂, _∙_}
-use native.Mathlib.Omega.{arith}
-use Prim.Native.Nat.{ℕ, _+_, _-_, _≤_}
-use lib.ListN.{length, take}
-use borrow.Author.Needs.{needs}
 use Rattle.restore_pathfinder.proofs.copy.Statement.{statement}
 use Rattle.restore_pathfinder.proofs.copy.Tie as tie
-use Rattle.restore_pathfinder.proofs.copy.Reads as reads
-use Rattle.restore_pathfinder.proofs.copy.Lts as lts
 
 abbrev Inv-loop : tie.InvT-loop
 Inv-loop from to₀ i₀ to i = (i ≤ length from) × (length to ≡ length to₀) × (take i to ≡ take i from)
@@ -19,35 +18,27 @@ Inv-loop from to₀ i₀ to i = (i ≤ length from) × (length to ≡ length to�
 abbrev μ-loop : tie.MeasureT-loop
 μ-loop from to₀ i₀ to i = length from - i
 
--- src/lib.rt:283:5
 loop-holds : tie.Need-loop-holds Inv-loop μ-loop
 loop-holds c = (omega arith, refl, refl)
 
--- src/lib.rt:284:17
 mul-v : tie.Need-mul-v Inv-loop μ-loop
 mul-v c = search needs
 
--- src/lib.rt:284:17
 shared-slice-copy-out-v : tie.Need-shared-slice-copy-out-v Inv-loop μ-loop
 shared-slice-copy-out-v c = search needs
 
--- src/lib.rt:285:9
 mul-v-2 : tie.Need-mul-v-2 Inv-loop μ-loop
 mul-v-2 c = search needs
 
--- src/lib.rt:285:9
 slice-set-from-v : tie.Need-slice-set-from-v Inv-loop μ-loop
 slice-set-from-v c = search needs
 
--- src/lib.rt:286:9
 add-i : tie.Need-add-i Inv-loop μ-loop
 add-i c = search needs
 
--- src/lib.rt:283:5
 loop-less : tie.Need-loop-less Inv-loop μ-loop
 loop-less c = search needs
 
--- src/lib.rt:283:5
 loop-again : tie.Need-loop-again Inv-loop μ-loop
 loop-again c =
     let l = c .before .before .loop in
@@ -56,11 +47,9 @@ loop-again c =
     rw (from-bits (at s (l .i)) (c .v .given))
     (omega arith, length-set (l .to) (l .i) (at s (l .i)) ∙ l .inv .1, copied-more s (l .to) (l .i) (omega arith) e (l .inv .2))
 
--- src/lib.rt:278:1
 same-length : tie.Need-same-length Inv-loop μ-loop
 same-length c = search needs
 
--- src/lib.rt:278:1
 returns : tie.Need-returns Inv-loop μ-loop
 returns c =
     let l = c .before .loop in

@@ -1,50 +1,39 @@
+-- `next` meets its contract. Each way out is a law of `Steps`; the write's value is handed on by its bits, which read back.
+-- Assumes nothing.
+use mathlib.Core.Path.{_≡_, sym, ap, _∙_}
 use lib.IntN.{ℤ}
 use lib.ListN.{length}
 use mir.Syntax.{w32}
 use mir.Val.{ofZ, toZ}
+use borrow.Author.Needs.{needs}
 use Rattle.requests_pathfinder.specs.declared.Request.the-variants.{Write}
 use Rattle.requests_pathfinder.specs.Requests.{sentAs, roomAfter}
 use Rattle.restore_order.specs.Slots.{at}
 use Rattle.restore_rules.proofs.Numbers.{from-bits}
-use mathlib.Core.Path.{_≡_, refl, sym, ap, ap₂, _∙_}
 use Rattle.restore_pathfinder.proofs.Steps.{out-of-turn, nothing-to-write, no-room, one-write}
-use borrow.Author.Needs.{needs}
 use Rattle.restore_pathfinder.proofs.next.Statement.{statement}
 use Rattle.restore_pathfinder.proofs.next.Tie as tie
-use Rattle.restore_pathfinder.proofs.next.Reads as reads
-use Rattle.restore_pathfinder.proofs.next.Lts as lts
-use Rattle.requests_pathfinder.proofs.write_request.Reads as write-request-reads
-use Rattle.restore_pathfinder.proofs.declined.Reads as declined-reads
-use Rattle.restore_rules.proofs.first_write.Reads as first-write-reads
-use Rattle.restore_pathfinder.proofs.sent.Reads as sent-reads
-use Rattle.restore_pathfinder.proofs.value_of.Reads as value-of-reads
 
 enum-told : tie.Need-enum-told
 enum-told c = search needs
 
--- src/lib.rt:112:9
 declined-requires : tie.Need-declined-requires
 declined-requires c κs = search needs
 
--- src/lib.rt:112:9
 returns : tie.Need-returns
 returns c =
     let a = c .before .before .before .args in
     rw (c .declined .ensures) (out-of-turn (a .job) (a .out .now) (c .before .match .keys2))
 
--- src/lib.rt:116:31
 first-write-requires : tie.Need-first-write-requires
 first-write-requires c κs = search needs
 
--- src/lib.rt:116:19
 enum-known-register : tie.Need-enum-known-register
 enum-known-register c = search needs
 
--- src/lib.rt:118:19
 enum-told-2 : tie.Need-enum-told-2
 enum-told-2 c = search needs
 
--- src/lib.rt:117:9
 returns-2 : tie.Need-returns-2
 returns-2 c =
     let f = c .before .before in
@@ -52,11 +41,9 @@ returns-2 c =
     let a = t .before .before .before .args in
     nothing-to-write (a .job) (a .out .now) (t .enum-told .given .1) (sym (f .first-write .ensures) ∙ c .enum-told2 .given .1)
 
--- src/lib.rt:123:9
 declined-requires-2 : tie.Need-declined-requires-2
 declined-requires-2 c κs = search needs
 
--- src/lib.rt:123:9
 returns-3 : tie.Need-returns-3
 returns-3 c =
     let g = c .before .before .before in
@@ -66,23 +53,18 @@ returns-3 c =
     rw (c .declined2 .ensures)
     (no-room (a .job) (a .out .now) (t .enum-told .given .1) (g .register .given .0 .0) (sym (f .first-write .ensures) ∙ g .register .given .1) (c .before .if1 .taken))
 
--- src/lib.rt:125:9
 value-of-requires : tie.Need-value-of-requires
 value-of-requires c κs = search needs
 
--- src/lib.rt:126:9
 write-request-requires : tie.Need-write-request-requires
 write-request-requires c κs = search needs
 
--- src/lib.rt:132:5
 sent-requires : tie.Need-sent-requires
 sent-requires c κs = search needs
 
--- src/lib.rt:106:1
 same-length : tie.Need-same-length
 same-length c = search needs
 
--- src/lib.rt:106:1
 returns-4 : tie.Need-returns-4
 returns-4 c =
     let x = c .before .before .before in

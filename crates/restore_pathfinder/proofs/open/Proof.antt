@@ -1,22 +1,18 @@
-use mathlib.Core.Path.{_≡_, refl, sym, ap, ap₂, _∙_}
+-- `open` meets its contract. A refusal by its verdict; else both rows are copied, and what was judged is opened (`is-opened`).
+-- Assumes nothing.
+use mathlib.Core.Path.{_≡_, sym, ap, ap₂, _∙_}
 use mathlib.Core.Bool.{true}
 use mathlib.Core.List.{List}
 use lib.IntN.{ℤ}
+use borrow.Author.Needs.{needs}
 use Rattle.restore_order.specs.Machine.{jobOf, ready}
 use Rattle.restore_order.specs.Opening.{pathfinder, opened, shapely, opening}
+use Rattle.restore_rules.proofs.Judging.{lengths, is-opened}
 use Rattle.restore_pathfinder.specs.Calls.{openedAs}
 use Rattle.restore_pathfinder.proofs.Steps.{is-refused}
-use Rattle.restore_rules.proofs.Judging.{lengths, is-opened}
-use borrow.Author.Needs.{needs}
 use Rattle.restore_pathfinder.proofs.open.Statement.{statement}
 use Rattle.restore_pathfinder.proofs.open.Tie as tie
-use Rattle.restore_pathfinder.proofs.open.Reads as reads
-use Rattle.restore_pathfinder.proofs.open.Lts as lts
-use Rattle.restore_pathfinder.proofs.copy.Reads as copy-reads
-use Rattle.restore_rules.proofs.judge.Reads as judge-reads
-use Rattle.restore_pathfinder.proofs.not_opened.Reads as not-opened-reads
 
--- src/lib.rt:87:36
 -- where the opening was accepted
 passed : (c : tie.After-enum-told)
     → (shapely pathfinder (c .before .before .before .args .present .now) (c .before .before .before .args .wanted .now) ≡ true)
@@ -29,15 +25,12 @@ passed c =
 judge-requires : tie.Need-judge-requires
 judge-requires c κs = search needs
 
--- src/lib.rt:87:29
 enum-known-why : tie.Need-enum-known-why
 enum-known-why c = search needs
 
--- src/lib.rt:88:9
 not-opened-requires : tie.Need-not-opened-requires
 not-opened-requires c κs = search needs
 
--- src/lib.rt:88:9
 returns : tie.Need-returns
 returns c =
     let a = c .before .before .before .before .before .args in
@@ -48,27 +41,22 @@ returns c =
 enum-told : tie.Need-enum-told
 enum-told c = search needs
 
--- src/lib.rt:92:19
 slice-aggregate-copy : tie.Need-slice-aggregate-copy
 slice-aggregate-copy c = search needs
 
--- src/lib.rt:92:5
 copy-requires : tie.Need-copy-requires
 copy-requires c κs =
     let a = c .before .before .before .before .args in
     lengths (a .present .now) (a .wanted .now) (passed (c .before) .0) .0
 
--- src/lib.rt:93:18
 slice-aggregate-copy-2 : tie.Need-slice-aggregate-copy-2
 slice-aggregate-copy-2 c = search needs
 
--- src/lib.rt:93:5
 copy-requires-2 : tie.Need-copy-requires-2
 copy-requires-2 c κs =
     let a = c .before .before .before .before .before .before .before .args in
     lengths (a .present .now) (a .wanted .now) (passed (c .before .before .before .before) .0) .1
 
--- src/lib.rt:84:1
 returns-2 : tie.Need-returns-2
 returns-2 c =
     ap₂ (λ (p v : List ℤ). openedAs (opened (jobOf p v ready))) (c .before .before .before .before .copy .ensures) (c .before .copy2 .ensures)

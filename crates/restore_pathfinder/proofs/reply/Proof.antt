@@ -1,43 +1,32 @@
-use mathlib.Core.Path.{_≡_, refl, sym, ap, ap₂, _∙_}
+-- `reply` meets its contract. Each way out is a law of `Steps`.
+-- Assumes nothing.
+use mathlib.Core.Path.{ap, _∙_}
+use borrow.Author.Needs.{needs}
 use Rattle.restore_pathfinder.specs.declared.Answer.the-variants.{Taken}
 use Rattle.restore_pathfinder.proofs.Steps.{not-waiting, reply-refused, register-written, device-failed}
-use borrow.Author.Needs.{needs}
 use Rattle.restore_pathfinder.proofs.reply.Statement.{statement}
 use Rattle.restore_pathfinder.proofs.reply.Tie as tie
-use Rattle.restore_pathfinder.proofs.reply.Reads as reads
-use Rattle.restore_pathfinder.proofs.reply.Lts as lts
-use Rattle.refusals.proofs.refuse.Reads as refuse-reads
-use Rattle.restore_pathfinder.proofs.decode.Reads as decode-reads
-use Rattle.restore_pathfinder.proofs.marked.Reads as marked-reads
-use Rattle.restore_pathfinder.proofs.stopped.Reads as stopped-reads
 
--- src/lib.rt:140:24
 enum-known-phase : tie.Need-enum-known-phase
 enum-known-phase c = search needs
 
--- src/lib.rt:142:37
 refuse-requires : tie.Need-refuse-requires
 refuse-requires c κs = search needs
 
--- src/lib.rt:141:9
 returns : tie.Need-returns
 returns c =
     let a = c .before .before .before .args in
     rw (c .refuse .ensures) (not-waiting (a .job .present) (a .job .wanted) (a .job .phase) (a .s .now) (c .before .match .keys2))
 
--- src/lib.rt:146:9
 decode-requires : tie.Need-decode-requires
 decode-requires c κs = search needs
 
--- src/lib.rt:148:23
 enum-known-answer : tie.Need-enum-known-answer
 enum-known-answer c = search needs
 
--- src/lib.rt:149:9
 enum-told : tie.Need-enum-told
 enum-told c = search needs
 
--- src/lib.rt:149:9
 returns-2 : tie.Need-returns-2
 returns-2 c =
     let a = c .before .before .before .before .before .before .before .args in
@@ -45,23 +34,18 @@ returns-2 c =
     reply-refused (a .job .present) (a .job .wanted) (a .job .phase) (d .before .before .phase .given .0 .0) (d .before .before .phase .given .1) (a .s .now)
     (d .decode .result) (d .decode .ensures) (c .enum-told .given .0 .0) (c .enum-told .given .1)
 
--- src/lib.rt:154:18
 enum-told-2 : tie.Need-enum-told-2
 enum-told-2 c = search needs
 
--- src/lib.rt:154:18
 marked-requires : tie.Need-marked-requires
 marked-requires c κs = search needs
 
--- src/lib.rt:158:18
 enum-told-3 : tie.Need-enum-told-3
 enum-told-3 c = search needs
 
--- src/lib.rt:158:18
 stopped-requires : tie.Need-stopped-requires
 stopped-requires c κs = search needs
 
--- src/lib.rt:136:1
 returns-3 : tie.Need-returns-3
 returns-3 c =
     let x = c .before .before .before .before in
@@ -72,7 +56,6 @@ returns-3 c =
     (register-written (a .job .present) (a .job .wanted) (a .job .phase) (d .before .before .phase .given .0 .0) (d .before .before .phase .given .1) (a .s .now)
     (d .decode .result) (d .decode .ensures) (x .answer .given .1 ∙ ap Taken e))
 
--- src/lib.rt:136:1
 returns-4 : tie.Need-returns-4
 returns-4 c =
     let x = c .before .before .before .before in

@@ -1,22 +1,18 @@
+-- `sent` meets its contract. By the writer's answer.
+-- Assumes nothing.
 use borrow.Author.Needs.{needs}
 use Rattle.restore_pathfinder.proofs.sent.Statement.{statement}
 use Rattle.restore_pathfinder.proofs.sent.Tie as tie
-use Rattle.restore_pathfinder.proofs.sent.Reads as reads
-use Rattle.restore_pathfinder.proofs.sent.Lts as lts
 
--- src/lib.rt:401:24
 enum-known-written : tie.Need-enum-known-written
 enum-known-written c = search needs
 
--- src/lib.rt:405:26
 enum-known-written-2 : tie.Need-enum-known-written-2
 enum-known-written-2 c = search needs
 
--- src/lib.rt:397:1
 returns : tie.Need-returns
 returns c = rw (c .before .written .given .1)
 
--- src/lib.rt:397:1
 returns-2 : tie.Need-returns-2
 returns-2 c = rw (c .before .written2 .given .1)
 

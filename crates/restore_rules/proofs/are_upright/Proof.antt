@@ -1,17 +1,16 @@
-use mathlib.Core.Path.{_≡_, refl, sym, ap, ap₂, _∙_}
-use native.Mathlib.Omega.{arith}
-use Prim.Native.Nat.{ℕ, _+_, _-_, _≤_}
-use borrow.Author.Needs.{needs}
+-- `are_upright` meets its contract. The loop's invariant: the answer is that of the slots from place k on; each turn goes by `sides-from`.
+-- Assumes nothing.
+use mathlib.Core.Path.{_≡_, refl, sym, ap, _∙_}
 use mathlib.Core.Bool.{Bool, true, false, _&&_}
-use Rattle.restore_order.specs.Slots.{slots, sides}
+use Prim.Native.Nat.{ℕ, _+_, _-_, _≤_}
+use native.Mathlib.Omega.{arith}
 use lib.ListN.{drop}
+use borrow.Author.Needs.{needs}
 use borrow.Author.Tests.{not-true, not-false}
+use Rattle.restore_order.specs.Slots.{slots, sides}
 use Rattle.restore_rules.proofs.Slots.{members-below, sides-from, sides-none}
 use Rattle.restore_rules.proofs.are_upright.Statement.{statement}
 use Rattle.restore_rules.proofs.are_upright.Tie as tie
-use Rattle.restore_rules.proofs.are_upright.Reads as reads
-use Rattle.restore_rules.proofs.are_upright.Lts as lts
-use Rattle.restore_rules.proofs.is_upright.Reads as is-upright-reads
 
 abbrev Inv-loop : tie.InvT-loop
 Inv-loop values k₀ k = (k ≤ 11) × (sides slots values ≡ sides (drop k slots) values)
@@ -19,25 +18,20 @@ Inv-loop values k₀ k = (k ≤ 11) × (sides slots values ≡ sides (drop k slo
 abbrev μ-loop : tie.MeasureT-loop
 μ-loop values k₀ k = 11 - k
 
--- src/lib.rt:246:5
 loop-holds : tie.Need-loop-holds Inv-loop μ-loop
 loop-holds c = (omega arith, refl)
 
--- src/lib.rt:247:32
 array-read-is-upright : tie.Need-array-read-is-upright Inv-loop μ-loop
 array-read-is-upright c = search needs
 
--- src/lib.rt:247:43
 array-read-is-upright-2 : tie.Need-array-read-is-upright-2 Inv-loop μ-loop
 array-read-is-upright-2 c = search needs
 
--- src/lib.rt:247:13
 is-upright-requires : tie.Need-is-upright-requires Inv-loop μ-loop
 is-upright-requires c κs =
     let m = members-below (c .before .loop .k) (c .loop-test .taken) in
     (c .before .before .pre, m .0, m .1)
 
--- src/lib.rt:248:13
 returns : tie.Need-returns Inv-loop μ-loop
 returns c =
     let p = c .before .before .before .before .args .values .now in
@@ -47,15 +41,12 @@ returns c =
     (c .before .before .before .loop .inv .1 ∙ sides-from p k (c .before .before .loop-test .taken)
     ∙ ap (λ (t : Bool). t && sides (drop (k + 1) slots) p) (sym (c .before .is-upright .ensures) ∙ h))
 
--- src/lib.rt:250:9
 add-k : tie.Need-add-k Inv-loop μ-loop
 add-k c = search needs
 
--- src/lib.rt:246:5
 loop-less : tie.Need-loop-less Inv-loop μ-loop
 loop-less c = search needs
 
--- src/lib.rt:246:5
 loop-again : tie.Need-loop-again Inv-loop μ-loop
 loop-again c =
     let p = c .before .before .before .before .args .values .now in
@@ -66,7 +57,6 @@ loop-again c =
           ∙ ap (λ (t : Bool). t && sides (drop (k + 1) slots) p) (sym (c .before .is-upright .ensures) ∙ h),
     )
 
--- src/lib.rt:241:1
 returns-2 : tie.Need-returns-2 Inv-loop μ-loop
 returns-2 c =
     let p = c .before .before .args .values .now in

@@ -1,17 +1,16 @@
-use mathlib.Core.Path.{_≡_, refl, sym, ap, ap₂, _∙_}
-use native.Mathlib.Omega.{arith}
-use Prim.Native.Nat.{ℕ, _+_, _-_, _≤_}
-use borrow.Author.Needs.{needs}
+-- `count_left` meets its contract. The loop's invariant: the count is that of the settings below n; each turn adds one or nothing (`one-more`).
+-- Assumes nothing.
+use mathlib.Core.Path.{_≡_, sym, ap, _∙_}
 use mathlib.Core.Bool.{true, false}
 use mathlib.Core.Logic.{⊎-elim}
+use Prim.Native.Nat.{ℕ, _-_, _≤_}
+use native.Mathlib.Omega.{arith}
+use borrow.Author.Needs.{needs}
 use Rattle.restore_order.specs.Slots.{differs, howMany}
 use Rattle.restore_order.proofs.Counts.{at-most}
 use Rattle.restore_rules.proofs.Loops.{none-counted, one-more}
 use Rattle.restore_rules.proofs.count_left.Statement.{statement}
 use Rattle.restore_rules.proofs.count_left.Tie as tie
-use Rattle.restore_rules.proofs.count_left.Reads as reads
-use Rattle.restore_rules.proofs.count_left.Lts as lts
-use Rattle.restore_rules.proofs.changed.Reads as changed-reads
 
 abbrev Inv-loop : tie.InvT-loop
 Inv-loop present wanted count₀ n₀ count n = (n ≤ 15) × (count ≡ howMany n (differs present wanted))
@@ -19,33 +18,26 @@ Inv-loop present wanted count₀ n₀ count n = (n ≤ 15) × (count ≡ howMany
 abbrev μ-loop : tie.MeasureT-loop
 μ-loop present wanted count₀ n₀ count n = 15 - n
 
--- src/lib.rt:70:5
 loop-holds : tie.Need-loop-holds Inv-loop μ-loop
 loop-holds c = (omega arith, sym (none-counted _))
 
--- src/lib.rt:71:37
 cast-changed : tie.Need-cast-changed Inv-loop μ-loop
 cast-changed c = search needs
 
--- src/lib.rt:71:12
 changed-requires : tie.Need-changed-requires Inv-loop μ-loop
 changed-requires c κs = search needs
 
--- src/lib.rt:72:13
 add-count : tie.Need-add-count Inv-loop μ-loop
 add-count c =
     let l = c .before .before .before in
     omega (arith, at-most (l .loop .n) (differs (l .before .args .present .now) (l .before .args .wanted .now)), l .loop .inv)
 
--- src/lib.rt:74:9
 add-n : tie.Need-add-n Inv-loop μ-loop
 add-n c = search needs
 
--- src/lib.rt:70:5
 loop-less : tie.Need-loop-less Inv-loop μ-loop
 loop-less c = search needs
 
--- src/lib.rt:70:5
 loop-again : tie.Need-loop-again Inv-loop μ-loop
 loop-again c =
     let l = c .before .before .before in
@@ -55,7 +47,6 @@ loop-again c =
     (λ v. (omega arith, omega (arith, one-more f (l .loop .n) false (sym (c .before .changed .ensures) ∙ v .0 .left), v .1)))
     (c .if1 .came)
 
--- src/lib.rt:65:1
 returns : tie.Need-returns Inv-loop μ-loop
 returns c =
     let l = c .before in

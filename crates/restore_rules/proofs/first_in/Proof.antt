@@ -1,50 +1,38 @@
-use mathlib.Core.Path.{_≡_, refl, sym, ap, ap₂, _∙_}
+-- `first_in` meets its contract. The two tests and the order, each from its callee, make the slot's first write (`first-of-slot`).
+-- Assumes nothing.
+use mathlib.Core.Path.{_≡_, ap₂, _∙_}
 use lib.Signed.{ltZ}
+use borrow.Author.Needs.{needs}
 use Rattle.restore_order.specs.Slots.{at, differs, upperFirst}
 use Rattle.restore_rules.proofs.Numbers.{from-bits}
 use Rattle.restore_rules.proofs.Slots.{first-of-slot}
-use borrow.Author.Needs.{needs}
 use Rattle.restore_rules.proofs.first_in.Statement.{statement}
 use Rattle.restore_rules.proofs.first_in.Tie as tie
-use Rattle.restore_rules.proofs.first_in.Reads as reads
-use Rattle.restore_rules.proofs.first_in.Lts as lts
-use Rattle.restore_rules.proofs.changed.Reads as changed-reads
-use Rattle.restore_rules.proofs.choose.Reads as choose-reads
-use Rattle.restore_rules.proofs.less.Reads as less-reads
 
--- src/lib.rt:322:28
 mul-less : tie.Need-mul-less
 mul-less c = search needs
 
--- src/lib.rt:322:28
 element-copy-out-less : tie.Need-element-copy-out-less
 element-copy-out-less c = search needs
 
--- src/lib.rt:322:53
 mul-less-2 : tie.Need-mul-less-2
 mul-less-2 c = search needs
 
--- src/lib.rt:322:53
 element-copy-out-less-2 : tie.Need-element-copy-out-less-2
 element-copy-out-less-2 c = search needs
 
--- src/lib.rt:322:9
 less-requires : tie.Need-less-requires
 less-requires c κs = search needs
 
--- src/lib.rt:323:9
 changed-requires : tie.Need-changed-requires
 changed-requires c κs = search needs
 
--- src/lib.rt:324:9
 changed-requires-2 : tie.Need-changed-requires-2
 changed-requires-2 c κs = search needs
 
--- src/lib.rt:325:5
 choose-requires : tie.Need-choose-requires
 choose-requires c κs = search needs
 
--- src/lib.rt:318:1
 returns : tie.Need-returns
 returns c =
     let a = c .before .before .before .before .before .before .args in

@@ -1,17 +1,16 @@
-use mathlib.Core.Path.{_≡_, refl, sym, ap, ap₂, _∙_}
-use native.Mathlib.Omega.{arith}
+-- `first_write` meets its contract. The loop's invariant: the first write is that of the slots from place k on; each turn goes by `first-from`.
+-- Assumes nothing.
+use mathlib.Core.Path.{_≡_, refl, sym, ap, _∙_}
 use Prim.Native.Nat.{ℕ, _+_, _-_, _≤_}
+use native.Mathlib.Omega.{arith}
+use lib.ListN.{drop}
 use borrow.Author.Needs.{needs}
 use Rattle.restore_order.specs.Slots.{slots, writes}
-use lib.ListN.{drop}
 use Rattle.restore_rules.specs.declared.First.{First}
 use Rattle.restore_rules.specs.Rules.{firstOf}
 use Rattle.restore_rules.proofs.Slots.{members-below, orElse, first-from, first-none}
 use Rattle.restore_rules.proofs.first_write.Statement.{statement}
 use Rattle.restore_rules.proofs.first_write.Tie as tie
-use Rattle.restore_rules.proofs.first_write.Reads as reads
-use Rattle.restore_rules.proofs.first_write.Lts as lts
-use Rattle.restore_rules.proofs.first_in.Reads as first-in-reads
 
 abbrev Inv-loop : tie.InvT-loop
 Inv-loop present wanted k₀ k = (k ≤ 11) × (firstOf (writes slots present wanted) ≡ firstOf (writes (drop k slots) present wanted))
@@ -19,29 +18,23 @@ Inv-loop present wanted k₀ k = (k ≤ 11) × (firstOf (writes slots present wa
 abbrev μ-loop : tie.MeasureT-loop
 μ-loop present wanted k₀ k = 11 - k
 
--- src/lib.rt:307:5
 loop-holds : tie.Need-loop-holds Inv-loop μ-loop
 loop-holds c = (omega arith, refl)
 
--- src/lib.rt:308:43
 array-read-first-in : tie.Need-array-read-first-in Inv-loop μ-loop
 array-read-first-in c = search needs
 
--- src/lib.rt:308:54
 array-read-first-in-2 : tie.Need-array-read-first-in-2 Inv-loop μ-loop
 array-read-first-in-2 c = search needs
 
--- src/lib.rt:308:13
 first-in-requires : tie.Need-first-in-requires Inv-loop μ-loop
 first-in-requires c κs =
     let m = members-below (c .before .loop .k) (c .loop-test .taken) in
     (m .0, m .1)
 
--- src/lib.rt:309:26
 enum-known-f : tie.Need-enum-known-f Inv-loop μ-loop
 enum-known-f c = search needs
 
--- src/lib.rt:310:13
 returns : tie.Need-returns Inv-loop μ-loop
 returns c =
     let at-loop = c .before .before .before .before .before in
@@ -56,15 +49,12 @@ returns c =
 enum-told : tie.Need-enum-told Inv-loop μ-loop
 enum-told c = search needs
 
--- src/lib.rt:312:9
 add-k : tie.Need-add-k Inv-loop μ-loop
 add-k c = search needs
 
--- src/lib.rt:307:5
 loop-less : tie.Need-loop-less Inv-loop μ-loop
 loop-less c = search needs
 
--- src/lib.rt:307:5
 loop-again : tie.Need-loop-again Inv-loop μ-loop
 loop-again c =
     let at-loop = c .before .before .before .before in
@@ -77,7 +67,6 @@ loop-again c =
           ∙ ap (λ (x : First). orElse x rest) (sym (c .before .before .first-in .ensures) ∙ c .enum-told .given .1),
     )
 
--- src/lib.rt:303:1
 returns-2 : tie.Need-returns-2 Inv-loop μ-loop
 returns-2 c =
     let p = c .before .before .args .present .now in

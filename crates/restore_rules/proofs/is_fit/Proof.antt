@@ -1,29 +1,22 @@
-use mathlib.Core.Path.{_≡_, refl, sym, ap, ap₂, _∙_}
+-- `is_fit` meets its contract. The number is handed on by its bits, which read back.
+-- Assumes nothing.
 use mir.Syntax.{w32}
 use mir.ValLaws.{toZ-ofZ}
 use borrow.Author.Needs.{needs}
 use Rattle.restore_rules.proofs.is_fit.Statement.{statement}
 use Rattle.restore_rules.proofs.is_fit.Tie as tie
-use Rattle.restore_rules.proofs.is_fit.Reads as reads
-use Rattle.restore_rules.proofs.is_fit.Lts as lts
-use Rattle.registers_pathfinder.proofs.fits_type.Reads as fits-type-reads
-use Rattle.restore_rules.proofs.is_writable.Reads as is-writable-reads
 
--- src/lib.rt:233:9
 is-writable-requires : tie.Need-is-writable-requires
 is-writable-requires c κs = search needs
 
--- src/lib.rt:235:9
 fits-type-requires : tie.Need-fits-type-requires
 fits-type-requires c κs = search needs
 
--- src/lib.rt:229:1
 returns : tie.Need-returns
 returns c =
     let a = c .before .before in
     rw (c .before .if1 .taken) (rw (toZ-ofZ w32 (a .args .value) (a .fits .value)) at (c .is-writable .ensures))
 
--- src/lib.rt:229:1
 returns-2 : tie.Need-returns-2
 returns-2 c =
     let a = c .before .before in

@@ -1,27 +1,22 @@
+-- `is_shapely` meets its contract. Each way out by the tests of the two lengths.
+-- Assumes nothing.
 use lib.ListN.{length}
 use borrow.Author.Tests.{eq-eqb, ne-eqb}
 use borrow.Author.Needs.{needs}
 use Rattle.restore_rules.proofs.is_shapely.Statement.{statement}
 use Rattle.restore_rules.proofs.is_shapely.Tie as tie
-use Rattle.restore_rules.proofs.is_shapely.Reads as reads
-use Rattle.restore_rules.proofs.is_shapely.Lts as lts
-use Rattle.restore_rules.proofs.all_fit.Reads as all-fit-reads
 
--- src/lib.rt:206:9
 returns : tie.Need-returns
 returns c = rw (ne-eqb (length (c .before .args .present .now)) 50 (c .if1 .taken))
 
--- src/lib.rt:209:9
 returns-2 : tie.Need-returns-2
 returns-2 c =
     let a = c .before .before .args in
     rw (eq-eqb (length (a .present .now)) 50 (c .before .if1 .left), ne-eqb (length (a .wanted .now)) 15 (c .if2 .taken))
 
--- src/lib.rt:211:5
 all-fit-requires : tie.Need-all-fit-requires
 all-fit-requires c κs = search needs
 
--- src/lib.rt:202:1
 returns-3 : tie.Need-returns-3
 returns-3 c =
     let a = c .before .before .before .args in

@@ -1,42 +1,34 @@
-use mathlib.Core.Path.{_≡_, refl, sym, ap, ap₂, _∙_}
+-- `is_upright` meets its contract. A setting by itself stands right; of a pair both numbers are handed on by their bits (`from-bits`).
+-- Assumes nothing.
+use mathlib.Core.Path.{_≡_, ap₂, _∙_}
 use mathlib.Core.Bool.{false}
 use lib.Dec.{eqb}
 use lib.Signed.{ltZ}
 use borrow.Author.Tests.{eq-eqb, ne-eqb}
-use Rattle.restore_rules.proofs.Numbers.{from-bits}
-use Rattle.restore_order.specs.Slots.{at}
 use borrow.Author.Needs.{needs}
+use Rattle.restore_order.specs.Slots.{at}
+use Rattle.restore_rules.proofs.Numbers.{from-bits}
 use Rattle.restore_rules.proofs.is_upright.Statement.{statement}
 use Rattle.restore_rules.proofs.is_upright.Tie as tie
-use Rattle.restore_rules.proofs.is_upright.Reads as reads
-use Rattle.restore_rules.proofs.is_upright.Lts as lts
-use Rattle.restore_rules.proofs.less.Reads as less-reads
 
--- src/lib.rt:260:9
 returns : tie.Need-returns
 returns c = rw (eq-eqb (c .before .args .upper) (c .before .args .lower) (c .if1 .taken))
 
--- src/lib.rt:262:10
 mul-less : tie.Need-mul-less
 mul-less c = search needs
 
--- src/lib.rt:262:10
 shared-slice-copy-out-less : tie.Need-shared-slice-copy-out-less
 shared-slice-copy-out-less c = search needs
 
--- src/lib.rt:262:34
 mul-less-2 : tie.Need-mul-less-2
 mul-less-2 c = search needs
 
--- src/lib.rt:262:34
 shared-slice-copy-out-less-2 : tie.Need-shared-slice-copy-out-less-2
 shared-slice-copy-out-less-2 c = search needs
 
--- src/lib.rt:262:5
 less-requires : tie.Need-less-requires
 less-requires c κs = search needs
 
--- src/lib.rt:255:1
 returns-2 : tie.Need-returns-2
 returns-2 c =
     let a = c .before .before .before .before .args in

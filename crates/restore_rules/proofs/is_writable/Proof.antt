@@ -1,24 +1,19 @@
-use mathlib.Core.Path.{_≡_, refl, sym, ap, ap₂, _∙_}
-use mathlib.Core.Bool.{true, false}
+-- `is_writable` meets its contract. The number is handed on by its bits, which read back; the range's test decides.
+-- Assumes nothing.
+use mathlib.Core.Path.{_≡_, sym, _∙_}
+use mathlib.Core.Bool.{true}
 use mir.Syntax.{w32}
 use mir.ValLaws.{toZ-ofZ}
 use borrow.Author.Needs.{needs}
 use Rattle.restore_rules.proofs.is_writable.Statement.{statement}
 use Rattle.restore_rules.proofs.is_writable.Tie as tie
-use Rattle.restore_rules.proofs.is_writable.Reads as reads
-use Rattle.restore_rules.proofs.is_writable.Lts as lts
-use Rattle.registers_pathfinder.proofs.fits_type.Reads as fits-type-reads
-use Rattle.registers_pathfinder.proofs.in_range.Reads as in-range-reads
 
--- src/lib.rt:242:8
 in-range-requires : tie.Need-in-range-requires
 in-range-requires c κs = search needs
 
--- src/lib.rt:243:9
 fits-type-requires : tie.Need-fits-type-requires
 fits-type-requires c κs = search needs
 
--- src/lib.rt:239:1
 returns : tie.Need-returns
 returns c =
     let a = c .before .before .before in
@@ -27,7 +22,6 @@ returns c =
     let f = rw (toZ-ofZ w32 (a .args .value) (a .fits .value)) at (c .fits-type .ensures) in
     rw (sym e ∙ r) f
 
--- src/lib.rt:239:1
 returns-2 : tie.Need-returns-2
 returns-2 c =
     let a = c .before .before in

@@ -1,10 +1,9 @@
+-- `same` meets its contract. The code's test goes by the bits (`same-bits`).
+-- Assumes nothing.
 use Rattle.restore_rules.proofs.Numbers.{same-bits}
 use Rattle.restore_rules.proofs.same.Statement.{statement}
 use Rattle.restore_rules.proofs.same.Tie as tie
-use Rattle.restore_rules.proofs.same.Reads as reads
-use Rattle.restore_rules.proofs.same.Lts as lts
 
--- src/lib.rt:379:1
 returns : tie.Need-returns
 returns c = same-bits (c .args .a) (c .args .b) (c .fits .a) (c .fits .b)
 
