@@ -1,0 +1,65 @@
+-- The ways out of an opening's tests, each from the facts that the code has there, and what an accepted one has passed.
+-- The ladder by its tests. Assumes nothing.
+use mathlib.Core.Path.{_≡_, refl}
+use mathlib.Core.Bool.{Bool, true, false, _&&_}
+use mathlib.Core.List.{List}
+use Prim.Native.Nat.{ℕ}
+use native.Mathlib.Omega.{arith}
+use lib.IntN.{ℤ}
+use lib.Dec.{eqb}
+use lib.ListN.{length}
+use borrow.Author.Tests.{eqb-true}
+use Rattle.laws.proofs.Ladders.{both}
+use Rattle.refusals.specs.Refused.{refusedWith, shape, range, wantedPair, presentPair}
+use Rattle.restore_order.specs.Slots.{slots, at, sides}
+use Rattle.restore_order.specs.Machine.{Job, jobOf, ready}
+use Rattle.restore_order.specs.Opening.{pathfinder, every, opened, inOrder, shapely, ranged, opening}
+use Rattle.restore_rules.specs.declared.Verdict.the-variants.{Accepted, Refused}
+use Rattle.restore_rules.specs.Rules.{verdictOf}
+
+module _ (o w : List ℤ) where
+  pub misshapen : shapely pathfinder o w ≡ false → Refused (refusedWith shape) ≡ verdictOf (opening pathfinder o w)
+  unfolding opening
+  misshapen h = rw h
+
+  module _ (shapes : shapely pathfinder o w ≡ true) where
+    -- 50 words and 15 values
+    pub lengths : (length o ≡ 50) × (length w ≡ 15)
+    lengths =
+        let typed : Bool = every 15 (λ n. pathfinder .fitsType n (at o n)) in
+        let a = both (eqb (length o) 50) (eqb (length w) 15 && typed) shapes in
+        let b = both (eqb (length w) 15) typed (a .1) in
+        (eqb-true (length o) 50 (a .0), eqb-true (length w) 15 (b .0))
+
+    pub out-of-range : ranged pathfinder w ≡ false → Refused (refusedWith range) ≡ verdictOf (opening pathfinder o w)
+    unfolding opening
+    out-of-range h = rw (shapes, h)
+
+    module _ (values : ranged pathfinder w ≡ true) where
+      pub wanted-crossed : sides slots w ≡ false → Refused (refusedWith wantedPair) ≡ verdictOf (opening pathfinder o w)
+      unfolding opening
+      wanted-crossed h = rw (shapes, values, h)
+
+      module _ (wanted : sides slots w ≡ true) where
+        pub present-crossed : sides slots o ≡ false → Refused (refusedWith presentPair) ≡ verdictOf (opening pathfinder o w)
+        unfolding opening
+        present-crossed h = rw (shapes, values, wanted, h)
+
+        pub accepted : sides slots o ≡ true → Accepted ≡ verdictOf (opening pathfinder o w)
+        unfolding opening
+        accepted h = rw (shapes, values, wanted, h)
+
+  -- the other way: what is accepted has passed every test
+  pub is-opened : Accepted ≡ verdictOf (opening pathfinder o w) → (shapely pathfinder o w ≡ true) × (opening pathfinder o w ≡ opened (jobOf o w ready))
+  unfolding opening
+  is-opened e = go (shapely pathfinder o w) (ranged pathfinder w) (sides slots w) (sides slots o) e
+    where
+      j : Job
+      j = jobOf o w ready
+
+      go : (a b c d : Bool) → Accepted ≡ verdictOf (inOrder a b c d j) → (a ≡ true) × (inOrder a b c d j ≡ opened j)
+      go true true true true q = (refl, refl)
+      go true true true false q = let z : _≡_ {A = ℕ} 0 1 = cc in absurd (omega arith)
+      go true true false d q = let z : _≡_ {A = ℕ} 0 1 = cc in absurd (omega arith)
+      go true false c d q = let z : _≡_ {A = ℕ} 0 1 = cc in absurd (omega arith)
+      go false b c d q = let z : _≡_ {A = ℕ} 0 1 = cc in absurd (omega arith)

@@ -1,0 +1,4 @@
+pub mod Judging
+pub mod Loops
+pub mod Numbers
+pub mod Slots
