@@ -1,3 +1,4 @@
 pub mod Below
+pub mod Differences
 pub mod Entries
 pub mod Walk
