@@ -1,4 +1,6 @@
 pub mod Below
 pub mod Differences
 pub mod Entries
+pub mod Filling
+pub mod Ladders
 pub mod Walk

@@ -1,0 +1,6 @@
+pub mod Carried
+pub mod Cases
+pub mod Parts
+pub mod RoundTrip
+pub mod Whole
+pub mod Writing

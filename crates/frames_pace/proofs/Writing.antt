@@ -1,0 +1,99 @@
+-- What the writer's stores and lent parts leave in the room: each is one more thing at the end of the front, over what was there.
+-- Assumes nothing.
+use mathlib.Core.Path.{_≡_, refl, sym, ap, ap₂, _∙_}
+use mathlib.Core.List.{List, [], _∷_, _++_, append-assoc}
+use Prim.Native.Nat.{ℕ, _+_, _-_, _*_, _<_, _≤_}
+use native.Mathlib.Omega.{arith}
+use borrow.Author.Tests.{lt-ltb}
+use borrow.Rule.Slice.PartMut.{putMid}
+use lib.ListN.{length, getD, take, drop, set, length-append, take-append-drop}
+use lib.Seq.{take-at, drop-drop, drop-append-add, length-take-le}
+use Rattle.laws.proofs.Filling.{one-more, part-more}
+use Rattle.checks.specs.Sums.{total, closing}
+use Rattle.digits.specs.declared.Length.the-variants.{Is, Wrong}
+use Rattle.digits.specs.Lengths.{wordOf, lengthWord}
+use Rattle.numbers.specs.declared.Order.the-variants.{HighFirst}
+use Rattle.numbers.specs.Bytes.{bytesOf}
+use Rattle.frames_pace.specs.Characters.{hexed}
+use Rattle.frames_pace.specs.Written.{headBytes, bodyChars, endChars, frameChars, sealed}
+use Rattle.frames_pace.proofs.Carried.{hexed-length}
+
+-- ---- the header
+
+word-of-count : (n : ℕ) → n < 4096 → wordOf n ≡ Is (lengthWord n)
+unfolding wordOf
+word-of-count n h = rw (lt-ltb _ _ h)
+
+-- a count below 4,096 has a LENGTH word
+pub no-word : {A : Type 0} (n : ℕ) → n < 4096 → wordOf n ≡ Wrong → A
+no-word n h e = let right = word-of-count n h in let z : _≡_ {A = ℕ} 0 1 = cc in absurd (omega arith)
+
+pub head-is : (pair : List ℕ) (address command n word : ℕ) → n < 4096 → wordOf n ≡ Is word → pair ≡ bytesOf HighFirst 2 word
+    → hexed (0x25 ∷ address ∷ 0x46 ∷ command ∷ getD pair 0 0 ∷ getD pair 1 0 ∷ []) ≡ hexed (headBytes address command n)
+head-is pair address command n word h e p =
+    let right = word-of-count n h in
+    let same : word ≡ lengthWord n = cc in
+    ap (λ (l : List ℕ). hexed (0x25 ∷ address ∷ 0x46 ∷ command ∷ getD l 0 0 ∷ getD l 1 0 ∷ [])) (p ∙ ap (bytesOf HighFirst 2) same)
+
+-- ---- the end
+
+-- CHKSUM, then the last mark
+pub seal-is : (s ys pair : List ℕ) (n sum : ℕ) → n + 18 ≤ length s → ys ≡ hexed pair → pair ≡ bytesOf HighFirst 2 sum
+    → sum ≡ closing 65536 (total (take (n + 13 - 1) (drop 1 s)))
+    → set (putMid (n + 13) (n + 17 - (n + 13)) s ys) (n + 17) 0x0D ≡ sealed n s
+seal-is s ys pair n sum room y p e =
+    let front = take (n + 13) s in
+    let four : n + 17 - (n + 13) ≡ 4 = omega arith in
+    let at : n + 13 + 4 ≡ n + 17 = omega arith in
+    let past : n + 17 + 1 ≡ n + 18 = omega arith in
+    let covered : n + 13 - 1 ≡ n + 12 = omega arith in
+    let long : length front ≡ n + 13 = length-take-le (n + 13) s (omega arith) in
+    let chars : ys ≡ hexed (bytesOf HighFirst 2 (closing 65536 (total (take (n + 12) (drop 1 s))))) =
+    y ∙ ap hexed (p ∙ ap (bytesOf HighFirst 2) (e ∙ ap (λ (k : ℕ). closing 65536 (total (take k (drop 1 s)))) covered)) in
+    let more : length (front ++ ys) ≡ n + 17 = length-append front ys ∙ omega (arith, long, ap length y, hexed-length pair, ap length p) in
+    let whole = take-append-drop (n + 13) s in
+    ap (λ (l : List ℕ). set (putMid (n + 13) (n + 17 - (n + 13)) l ys) (n + 17) 0x0D) (sym whole)
+    ∙ ap (λ (k : ℕ). set (putMid (n + 13) k (front ++ drop (n + 13) s) ys) (n + 17) 0x0D) four
+    ∙ ap (λ (l : List ℕ). set l (n + 17) 0x0D) (part-more front s (n + 13) 4 ys long ∙ ap (λ (k : ℕ). (front ++ ys) ++ drop k s) at)
+    ∙ one-more (front ++ ys) s (n + 17) 0x0D 0 more (omega arith)
+    ∙ ap (λ (k : ℕ). ((front ++ ys) ++ 0x0D ∷ []) ++ drop k s) past
+    ∙ ap (λ (l : List ℕ). l ++ drop (n + 18) s) (append-assoc front ys (0x0D ∷ []))
+    ∙ append-assoc front (ys ++ 0x0D ∷ []) (drop (n + 18) s)
+    ∙ ap (λ (l : List ℕ). front ++ ((l ++ 0x0D ∷ []) ++ drop (n + 18) s)) chars
+
+-- ---- the whole
+
+-- a frame that stands at the front without its end, closed
+closed-front : (body old : List ℕ) (n : ℕ) → length body ≡ n + 12 → sealed n (0x7E ∷ (body ++ drop (n + 13) old)) ≡ (0x7E ∷ (body ++ endChars body)) ++ drop (n + 18) old
+closed-front body old n long =
+    let front : List ℕ = 0x7E ∷ body in
+    let rest = drop (n + 13) old in
+    let size : length front ≡ n + 13 = omega arith in
+    let five : n + 18 ≡ length front + 5 = omega arith in
+    let all : n + 13 + 5 ≡ n + 18 = omega arith in
+    let first = take-at front rest (n + 13) size in
+    let inner = take-at body rest (n + 12) long in
+    let past = ap (λ (k : ℕ). drop k (front ++ rest)) five ∙ drop-append-add front rest 5 ∙ drop-drop 5 (n + 13) old ∙ ap (λ (k : ℕ). drop k old) all in
+    ap₂ (λ (a b : List ℕ). a ++ (endChars b ++ drop (n + 18) (front ++ rest))) first inner
+    ∙ ap (λ (l : List ℕ). front ++ (endChars body ++ l)) past
+    ∙ sym (append-assoc front (endChars body) (drop (n + 18) old))
+
+-- first mark, header and INFO, closed
+pub frame-is : (old head load info : List ℕ) (address command n : ℕ) → n + 18 ≤ length old → n ≡ 2 * length info
+    → head ≡ hexed (headBytes address command n) → load ≡ hexed info
+    → sealed n (putMid 13 (n + 13 - 13) (putMid 1 12 (set old 0 0x7E) head) load) ≡ frameChars address command info ++ drop (n + 18) old
+unfolding frameChars
+frame-is old head load info address command n room e h l =
+    let size : length head ≡ 12 = ap length h ∙ hexed-length (headBytes address command n) in
+    let size2 : length load ≡ n = ap length l ∙ omega (arith, hexed-length info) in
+    let count : n + 13 - 13 ≡ n = omega arith in
+    let at : 13 + n ≡ n + 13 = omega arith in
+    let long : length (head ++ load) ≡ n + 12 = length-append head load ∙ omega arith in
+    let mark = one-more [] old 0 0x7E 0 refl (omega arith) in
+    let body : head ++ load ≡ bodyChars address command info = ap₂ _++_ (h ∙ ap (λ (k : ℕ). hexed (headBytes address command k)) e) l in
+    ap₂ (λ (k : ℕ) (s : List ℕ). sealed n (putMid 13 k (putMid 1 12 s head) load)) count mark
+    ∙ ap (λ (s : List ℕ). sealed n (putMid 13 n s load)) (part-more (0x7E ∷ []) old 1 12 head refl)
+    ∙ ap (sealed n) (part-more (0x7E ∷ head) old 13 n load (omega arith))
+    ∙ ap (λ (k : ℕ). sealed n (0x7E ∷ ((head ++ load) ++ drop k old))) at
+    ∙ closed-front (head ++ load) old n long
+    ∙ ap (λ (s : List ℕ). (0x7E ∷ (s ++ endChars s)) ++ drop (n + 18) old) body

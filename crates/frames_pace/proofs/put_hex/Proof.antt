@@ -1,0 +1,101 @@
+-- `frames_pace::put_hex` meets its contract. The loop's invariant: the characters of the bytes passed stand in front of what was there.
+-- Assumes nothing.
+use Prim.Native.Nat.{ℕ, _+_, _-_, _*_, _≤_, _<_}
+use mathlib.Core.Path.{_≡_, refl, sym, ap, _∙_}
+use mathlib.Core.List.{List, _++_, append-nil}
+use native.Mathlib.Omega.{arith}
+use lib.ListN.{length, take, drop, length-set, drop-of-length-le}
+use lib.Seq.{take-all}
+use borrow.Author.Needs.{needs}
+use Rattle.frames_pace.specs.Characters.{hexed}
+use Rattle.frames_pace.proofs.Carried.{hexed-more}
+use Rattle.frames_pace.proofs.put_hex.Statement.{statement}
+use Rattle.frames_pace.proofs.put_hex.Tie as tie
+
+abbrev Inv-loop : tie.InvT-loop
+Inv-loop bytes out₀ i₀ out i = (i ≤ length bytes) × ((out ≡ hexed (take i bytes) ++ drop (2 * i) out₀) × (length out ≡ length out₀))
+
+abbrev μ-loop : tie.MeasureT-loop
+μ-loop bytes out₀ i₀ out i = length bytes - i
+
+loop-holds : tie.Need-loop-holds Inv-loop μ-loop
+unfolding hexed
+loop-holds c = (omega arith, (refl, refl))
+
+shared-slice-read-write-byte : tie.Need-shared-slice-read-write-byte Inv-loop μ-loop
+shared-slice-read-write-byte c = search needs
+
+write-byte-requires : tie.Need-write-byte-requires Inv-loop μ-loop
+write-byte-requires c κs = search needs
+
+array-read-out : tie.Need-array-read-out Inv-loop μ-loop
+array-read-out c = search needs
+
+mul-out : tie.Need-mul-out Inv-loop μ-loop
+mul-out c = omega arith
+
+slice-write-out : tie.Need-slice-write-out Inv-loop μ-loop
+slice-write-out c = omega arith
+
+array-read-out-2 : tie.Need-array-read-out-2 Inv-loop μ-loop
+array-read-out-2 c = search needs
+
+mul-out-2 : tie.Need-mul-out-2 Inv-loop μ-loop
+mul-out-2 c = omega arith
+
+add-out : tie.Need-add-out Inv-loop μ-loop
+add-out c = omega arith
+
+slice-write-out-2 : tie.Need-slice-write-out-2 Inv-loop μ-loop
+slice-write-out-2 c = simp length-set (omega arith)
+
+add-i : tie.Need-add-i Inv-loop μ-loop
+add-i c = omega arith
+
+loop-less : tie.Need-loop-less Inv-loop μ-loop
+loop-less c = omega arith
+
+loop-again : tie.Need-loop-again Inv-loop μ-loop
+loop-again c =
+    let turn = c .before .before in
+    let a = turn .before .before .before .before .args in
+    let l = turn .before .loop in (
+      omega arith,
+      (
+        hexed-more (a .bytes .now) (a .out .now) (l .out) (c .write-byte .result) (l .i) (l .inv .1 .0) (omega arith) (search needs) (c .write-byte .ensures),
+        simp length-set (l .inv .1 .1),
+      ),
+    )
+
+same-length : tie.Need-same-length Inv-loop μ-loop
+same-length c = omega arith
+
+returns : tie.Need-returns Inv-loop μ-loop
+returns c =
+    let a = c .before .before .before .before .args in
+    let l = c .before .loop in
+    let done = take-all (l .i) (a .bytes .now) (omega arith) in
+    let none = drop-of-length-le (a .out .now) {i = 2 * l .i} (omega arith) in
+    l .inv .1 .0 ∙ rw (done, none) (append-nil (hexed (a .bytes .now)))
+
+pub put-hex-spec : {M : Type 1} → statement M
+put-hex-spec =
+    tie.close
+    (tie.spec
+    Inv-loop
+    μ-loop
+    loop-holds
+    shared-slice-read-write-byte
+    write-byte-requires
+    array-read-out
+    mul-out
+    slice-write-out
+    array-read-out-2
+    mul-out-2
+    add-out
+    slice-write-out-2
+    add-i
+    loop-less
+    loop-again
+    same-length
+    returns)

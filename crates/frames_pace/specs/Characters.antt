@@ -1,0 +1,40 @@
+-- Bytes and the characters that carry them, two hex digits a byte, the high one first (01, PACE).
+-- Assumes nothing.
+use mathlib.Core.Bool.{Bool, true, false, _&&_}
+use mathlib.Core.List.{List, [], _∷_}
+use Prim.Native.Nat.{ℕ, _+_, _/_, _%_}
+use lib.ListN.{getD}
+use Rattle.digits.specs.declared.Hex.{Hex}
+use Rattle.digits.specs.declared.Hex.the-variants.{Value, Other}
+use Rattle.digits.specs.Hexes.{digitOf, byteOf, charOf}
+use Rattle.numbers.specs.declared.Order.the-variants.{HighFirst}
+use Rattle.numbers.specs.Bytes.{numberOf}
+
+-- what a reading holds; 0 where there is none (no character of a whole frame is read so)
+abbrev pub valueIn : Hex → ℕ
+valueIn (Value v) = v
+valueIn Other = 0
+
+abbrev pub isValue : Hex → Bool
+isValue (Value v) = true
+isValue Other = false
+
+-- every character is one of 0-9 and A-F
+unfoldable pub allHex : List ℕ → Bool
+allHex [] = true
+allHex (c ∷ s) = isValue (digitOf c) && allHex s
+
+-- the bytes of characters taken two by two; one left over is no byte
+unfoldable pub bytesIn : List ℕ → List ℕ
+bytesIn [] = []
+bytesIn (h ∷ []) = []
+bytesIn (h ∷ l ∷ s) = valueIn (byteOf h l) ∷ bytesIn s
+
+-- the characters of bytes
+unfoldable pub hexed : List ℕ → List ℕ
+hexed [] = []
+hexed (b ∷ s) = charOf (b / 16) ∷ charOf (b % 16) ∷ hexed s
+
+-- the number of the two bytes from place i on
+abbrev pub wordAt : List ℕ → ℕ → ℕ
+wordAt d i = numberOf HighFirst (getD d i 0 ∷ getD d (i + 1) 0 ∷ [])
