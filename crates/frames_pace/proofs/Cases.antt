@@ -13,7 +13,7 @@ use Rattle.digits.specs.declared.Length.the-variants.{Is, Wrong}
 use Rattle.digits.specs.Lengths.{countOf}
 use Rattle.refusals.specs.Refused.{refusedWith, short, firstMark, lastMark, lengths, checksum, address, character}
 use Rattle.frames_pace.specs.declared.Frame.the-variants.{Whole, Refused}
-use Rattle.frames_pace.specs.Characters.{allHex, bytesIn, wordAt}
+use Rattle.characters_pace.specs.Characters.{allHex, bytesIn, wordAt}
 use Rattle.frames_pace.specs.Frame.{innerOf, headOf, coveredOf, checkOf, counts, counted, frameOf}
 
 -- ---- parts as the code lends them

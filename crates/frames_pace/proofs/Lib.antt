@@ -1,4 +1,3 @@
-pub mod Carried
 pub mod Cases
 pub mod Parts
 pub mod RoundTrip

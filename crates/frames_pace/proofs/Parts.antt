@@ -8,7 +8,7 @@ use native.Mathlib.Numerals.{add-one}
 use native.Mathlib.Omega.{arith}
 use lib.ListN.{length, getD, take, drop, length-append, length-take, length-drop, take-append-drop, drop-of-length-le}
 use lib.Seq.{take-at, drop-at, getD-at, drop-drop, drop-cons, length-take-le}
-use Rattle.frames_pace.specs.Characters.{bytesIn, wordAt}
+use Rattle.characters_pace.specs.Characters.{bytesIn, wordAt}
 use Rattle.frames_pace.specs.Frame.{innerOf, headOf, coveredOf, checkOf, infoOf}
 
 -- what the reader cuts out of a list are these pieces

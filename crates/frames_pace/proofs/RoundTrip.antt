@@ -18,10 +18,10 @@ use Rattle.numbers.specs.declared.Order.the-variants.{HighFirst}
 use Rattle.numbers.specs.Bytes.{bytesOf}
 use Rattle.numbers.proofs.Orders.{Bytes, written-reads-back, read-writes-back}
 use Rattle.frames_pace.specs.declared.Frame.the-variants.{Whole}
-use Rattle.frames_pace.specs.Characters.{allHex, bytesIn, hexed, wordAt}
+use Rattle.characters_pace.specs.Characters.{allHex, bytesIn, hexed, wordAt}
 use Rattle.frames_pace.specs.Frame.{innerOf, headOf, coveredOf, checkOf, infoOf, payloadOf, frameOf}
 use Rattle.frames_pace.specs.Written.{headBytes, bodyChars, endChars, frameChars}
-use Rattle.frames_pace.proofs.Carried.{hexed-length, hexed-all, hexed-reads-back, all-append, bytes-length, all-split, bytes-small, read-writes-back as hexes-back}
+use Rattle.characters_pace.proofs.Carried.{hexed-length, hexed-all, hexed-reads-back, all-append, bytes-length, all-split, bytes-small, read-writes-back as hexes-back}
 use Rattle.frames_pace.proofs.Cases.{whole}
 use Rattle.frames_pace.proofs.Parts.{Cut, pieces, cut-pieces, head-length, info-length, check-length, in-pieces}
 use Rattle.frames_pace.proofs.Whole.{Said, whole-says}

@@ -15,7 +15,7 @@ use Rattle.digits.specs.declared.Length.the-variants.{Is, Wrong}
 use Rattle.digits.specs.Lengths.{countOf}
 use Rattle.refusals.specs.declared.Refusal.{Refusal}
 use Rattle.frames_pace.specs.declared.Frame.the-variants.{Whole, Refused}
-use Rattle.frames_pace.specs.Characters.{allHex, wordAt}
+use Rattle.characters_pace.specs.Characters.{allHex, wordAt}
 use Rattle.frames_pace.specs.Frame.{innerOf, headOf, coveredOf, checkOf, infoOf, counts, counted, known, frameOf}
 
 pub record Said (s : List ℕ) (address command start len : ℕ) : Type 0 where

@@ -6,17 +6,17 @@ use Prim.Native.Nat.{ℕ, _+_, _-_, _*_, _<_, _≤_}
 use native.Mathlib.Omega.{arith}
 use borrow.Author.Tests.{lt-ltb}
 use borrow.Rule.Slice.PartMut.{putMid}
-use lib.ListN.{length, getD, take, drop, set, length-append, take-append-drop}
+use lib.ListN.{length, getD, take, drop, set, length-append, length-drop, take-append-drop}
 use lib.Seq.{take-at, drop-drop, drop-append-add, length-take-le}
-use Rattle.laws.proofs.Filling.{one-more, part-more}
+use Rattle.laws.proofs.Filling.{one-more, part-more, part-length}
 use Rattle.checks.specs.Sums.{total, closing}
 use Rattle.digits.specs.declared.Length.the-variants.{Is, Wrong}
 use Rattle.digits.specs.Lengths.{wordOf, lengthWord}
 use Rattle.numbers.specs.declared.Order.the-variants.{HighFirst}
 use Rattle.numbers.specs.Bytes.{bytesOf}
-use Rattle.frames_pace.specs.Characters.{hexed}
+use Rattle.characters_pace.specs.Characters.{hexed, hexAfter}
 use Rattle.frames_pace.specs.Written.{headBytes, bodyChars, endChars, frameChars, sealed}
-use Rattle.frames_pace.proofs.Carried.{hexed-length}
+use Rattle.characters_pace.proofs.Carried.{hexed-length, hex-exact}
 
 -- ---- the header
 
@@ -38,10 +38,14 @@ head-is pair address command n word h e p =
 -- ---- the end
 
 -- CHKSUM, then the last mark
-pub seal-is : (s ys pair : List ℕ) (n sum : ℕ) → n + 18 ≤ length s → ys ≡ hexed pair → pair ≡ bytesOf HighFirst 2 sum
+pub seal-is : (s ys pair : List ℕ) (n sum : ℕ) → n + 18 ≤ length s
+    → ys ≡ hexAfter pair (take (n + 17 - (n + 13)) (drop (n + 13) s)) → pair ≡ bytesOf HighFirst 2 sum
     → sum ≡ closing 65536 (total (take (n + 13 - 1) (drop 1 s)))
     → set (putMid (n + 13) (n + 17 - (n + 13)) s ys) (n + 17) 0x0D ≡ sealed n s
-seal-is s ys pair n sum room y p e =
+seal-is s ys pair n sum room put p e =
+    let size : length pair ≡ 2 = ap length p in
+    let exact = part-length (n + 13) (n + 17 - (n + 13)) s (omega arith) in
+    let y : ys ≡ hexed pair = put ∙ hex-exact pair (take (n + 17 - (n + 13)) (drop (n + 13) s)) (omega arith) in
     let front = take (n + 13) s in
     let four : n + 17 - (n + 13) ≡ 4 = omega arith in
     let at : n + 13 + 4 ≡ n + 17 = omega arith in
@@ -80,19 +84,22 @@ closed-front body old n long =
 
 -- first mark, header and INFO, closed
 pub frame-is : (old head load info : List ℕ) (address command n : ℕ) → n + 18 ≤ length old → n ≡ 2 * length info
-    → head ≡ hexed (headBytes address command n) → load ≡ hexed info
+    → head ≡ hexed (headBytes address command n) → load ≡ hexAfter info (take (n + 13 - 13) (drop 13 (putMid 1 12 (set old 0 0x7E) head)))
     → sealed n (putMid 13 (n + 13 - 13) (putMid 1 12 (set old 0 0x7E) head) load) ≡ frameChars address command info ++ drop (n + 18) old
 unfolding frameChars
-frame-is old head load info address command n room e h l =
+frame-is old head load info address command n room e h put =
     let size : length head ≡ 12 = ap length h ∙ hexed-length (headBytes address command n) in
+    let mark = one-more [] old 0 0x7E 0 refl (omega arith) in
+    let begun : putMid 1 12 (set old 0 0x7E) head ≡ (0x7E ∷ head) ++ drop 13 old = ap (λ (s : List ℕ). putMid 1 12 s head) mark ∙ part-more (0x7E ∷ []) old 1 12 head refl in
+    let wide : length (putMid 1 12 (set old 0 0x7E) head) ≡ length old = ap length begun ∙ length-append (0x7E ∷ head) (drop 13 old) ∙ omega (arith, length-drop 13 old) in
+    let exact = part-length 13 (n + 13 - 13) (putMid 1 12 (set old 0 0x7E) head) (omega arith) in
+    let l : load ≡ hexed info = put ∙ hex-exact info (take (n + 13 - 13) (drop 13 (putMid 1 12 (set old 0 0x7E) head))) (omega arith) in
     let size2 : length load ≡ n = ap length l ∙ omega (arith, hexed-length info) in
     let count : n + 13 - 13 ≡ n = omega arith in
     let at : 13 + n ≡ n + 13 = omega arith in
     let long : length (head ++ load) ≡ n + 12 = length-append head load ∙ omega arith in
-    let mark = one-more [] old 0 0x7E 0 refl (omega arith) in
     let body : head ++ load ≡ bodyChars address command info = ap₂ _++_ (h ∙ ap (λ (k : ℕ). hexed (headBytes address command k)) e) l in
-    ap₂ (λ (k : ℕ) (s : List ℕ). sealed n (putMid 13 k (putMid 1 12 s head) load)) count mark
-    ∙ ap (λ (s : List ℕ). sealed n (putMid 13 n s load)) (part-more (0x7E ∷ []) old 1 12 head refl)
+    ap₂ (λ (k : ℕ) (s : List ℕ). sealed n (putMid 13 k s load)) count begun
     ∙ ap (sealed n) (part-more (0x7E ∷ head) old 13 n load (omega arith))
     ∙ ap (λ (k : ℕ). sealed n (0x7E ∷ ((head ++ load) ++ drop k old))) at
     ∙ closed-front (head ++ load) old n long

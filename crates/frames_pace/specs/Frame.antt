@@ -14,7 +14,7 @@ use Rattle.digits.specs.Lengths.{countOf}
 use Rattle.refusals.specs.Refused.{refusedWith, short, firstMark, lastMark, lengths, checksum, address, character}
 use Rattle.frames_pace.specs.declared.Frame.{Frame}
 use Rattle.frames_pace.specs.declared.Frame.the-variants.{Whole, Refused}
-use Rattle.frames_pace.specs.Characters.{allHex, bytesIn, wordAt}
+use Rattle.characters_pace.specs.Characters.{allHex, bytesIn, wordAt}
 
 -- what stands between the marks
 abbrev pub innerOf : List ℕ → List ℕ

@@ -12,7 +12,7 @@ use Rattle.numbers.specs.Bytes.{bytesOf}
 use Rattle.refusals.specs.Refused.{refusedWith, shape, room}
 use Rattle.frames_pace.specs.declared.Written.{Written}
 use Rattle.frames_pace.specs.declared.Written.the-variants.{Frame, Refused}
-use Rattle.frames_pace.specs.Characters.{hexed}
+use Rattle.characters_pace.specs.Characters.{hexed}
 
 -- version, address, CID1, command and the LENGTH of n characters
 abbrev pub headBytes : ℕ → ℕ → ℕ → List ℕ

@@ -1,25 +1,23 @@
 // PACE frames (004; 01, PACE): ~, then upper-case hex: version 25, address, CID1 46, command (a return code in a reply),
 // LENGTH, INFO, CHKSUM, then carriage return.
+use characters_pace::all_hex;
+use characters_pace::byte_of;
+use characters_pace::put_hex;
+use characters_pace::word_of;
 use checks::close65536;
 use checks::closes65536;
-use digits::Hex;
 use digits::Length;
 use digits::length_count;
 use digits::length_word;
-use digits::read_byte;
-use digits::read_digit;
-use digits::write_byte;
 use numbers::Order;
 use numbers::bytes16;
-use numbers::number16;
 use refusals::Refusal;
 use refusals::refuse;
 ghost use mathlib.Core.Path.{_≡_};
 ghost use mathlib.Core.Bool.{true};
-ghost use Prim.Native.Nat.{_+_, _-_, _*_, _≤_, _<_};
+ghost use Prim.Native.Nat.{_+_, _-_, _≤_, _<_};
 ghost use lib.ListN.{length, getD};
-ghost use Rattle.digits.specs.Hexes.{digitOf, byteOf};
-ghost use Rattle.frames_pace.specs.Characters.{valueIn, isValue, allHex, bytesIn, hexed, wordAt};
+ghost use Rattle.characters_pace.specs.Characters.{allHex, hexed};
 ghost use Rattle.frames_pace.specs.Frame.{frameOf, innerOf};
 ghost use Rattle.frames_pace.specs.Written.{headBytes, writtenOf, roomAfter, sealed};
 
@@ -95,64 +93,6 @@ fn counted_frame(s: &[u8]) -> Frame
     }
 }
 
-// Whether each character is one of 0-9 and A-F.
-fn all_hex(s: &[u8]) -> bool
-    ensures { λ r. ⌜ r ≡ allHex (now (s .entry)) ⌝ }
-{
-    let mut i = 0;
-    while i < s.len() {
-        if !is_hex(s[i]) {
-            return false;
-        }
-        i += 1;
-    }
-    true
-}
-
-// The byte at place i of the bytes that these characters are, 0 past their end.
-pub fn byte_of(s: &[u8], i: usize) -> u8
-    ensures { λ r. ⌜ r ≡ getD (bytesIn (now (s .entry))) i 0 ⌝ }
-{
-    if i < s.len() / 2 {
-        pair_of(s[2 * i], s[2 * i + 1])
-    } else {
-        0
-    }
-}
-
-// The number of the two bytes from place i on.
-pub fn word_of(s: &[u8], i: usize) -> u16
-    ensures { λ r. ⌜ r ≡ wordAt (bytesIn (now (s .entry))) i ⌝ }
-{
-    if i < s.len() / 2 {
-        number16(Order::HighFirst, byte_of(s, i), byte_of(s, i + 1))
-    } else {
-        0
-    }
-}
-
-// Whether a character is one of 0-9 and A-F.
-fn is_hex(c: u8) -> bool
-    ensures { λ r. ⌜ r ≡ isValue (digitOf c) ⌝ }
-{
-    let d = read_digit(c);
-    match d {
-        Hex::Value(_) => true,
-        Hex::Other => false,
-    }
-}
-
-// The byte of two characters, 0 where one is no digit.
-fn pair_of(high: u8, low: u8) -> u8
-    ensures { λ r. ⌜ r ≡ valueIn (byteOf high low) ⌝ }
-{
-    let d = read_byte(high, low);
-    match d {
-        Hex::Value(b) => b,
-        Hex::Other => 0,
-    }
-}
-
 pub enum Written {
     // A frame of so many characters stands at the front of the room.
     Frame(usize),
@@ -198,18 +138,4 @@ fn seal(out: &mut [u8], n: usize)
     let sum = close65536(&out[1..n + 13]);
     put_hex(&bytes16(Order::HighFirst, sum), &mut out[n + 13..n + 17]);
     out[n + 17] = LAST;
-}
-
-// The characters of the bytes.
-fn put_hex(bytes: &[u8], out: &mut [u8])
-    requires { ⌜ length (now out) ≡ 2 * length (now bytes) ⌝ }
-    ensures { λ _. ⌜ now (out .exit) ≡ hexed (now (bytes .entry)) ⌝ }
-{
-    let mut i = 0;
-    while i < bytes.len() {
-        let pair = write_byte(bytes[i]);
-        out[2 * i] = pair[0];
-        out[2 * i + 1] = pair[1];
-        i += 1;
-    }
 }

@@ -9,9 +9,10 @@ use Rattle.checks.specs.Sums.{total, closes}
 use Rattle.digits.specs.declared.Length.the-variants.{Is}
 use Rattle.digits.specs.Lengths.{countOf}
 use Rattle.frames_pace.specs.declared.Frame.the-variants.{Whole, Refused}
-use Rattle.frames_pace.specs.Characters.{wordAt}
+use Rattle.characters_pace.specs.Characters.{wordAt}
 use Rattle.frames_pace.specs.Frame.{headOf, coveredOf, checkOf}
 use Rattle.frames_pace.proofs.Cases.{sum-lent, no-count, other-count, unclosed, other-version, other-cid1, whole}
+use native.Mathlib.Omega.{arith}
 use borrow.Author.Needs.{needs}
 use Rattle.frames_pace.proofs.counted_frame.Statement.{statement}
 use Rattle.frames_pace.proofs.counted_frame.Tie as tie
@@ -34,19 +35,19 @@ tested c =
     sum-lent (start .args .s .now) (c .before .word-of2 .result) (c .closes65536 .result) (start .pre .0) (c .before .word-of2 .ensures) (c .closes65536 .ensures)
 
 sub-head : tie.Need-sub-head
-sub-head c = search needs
+sub-head c = omega arith
 
 part-head-start : tie.Need-part-head-start
-part-head-start c = search needs
+part-head-start c = omega arith
 
 part-head-end : tie.Need-part-head-end
-part-head-end c = search needs
+part-head-end c = omega arith
 
 word-of-requires : tie.Need-word-of-requires
-word-of-requires c κs = search needs
+word-of-requires c κs = tt
 
 length-count-requires : tie.Need-length-count-requires
-length-count-requires c κs = search needs
+length-count-requires c κs = tt
 
 enum-known-count : tie.Need-enum-known-count
 enum-known-count c = search needs
@@ -55,7 +56,7 @@ enum-told : tie.Need-enum-told
 enum-told c = search needs
 
 refuse-requires : tie.Need-refuse-requires
-refuse-requires c κs = search needs
+refuse-requires c κs = tt
 
 returns : tie.Need-returns
 returns c =
@@ -65,52 +66,52 @@ returns c =
     (sym (read .length-count .ensures ∙ ap countOf (read .before .word-of .ensures)) ∙ c .before .enum-told .given .1)
 
 cast-if1 : tie.Need-cast-if1
-cast-if1 c = search needs
+cast-if1 c = omega arith
 
 sub-if1 : tie.Need-sub-if1
-sub-if1 c = search needs
+sub-if1 c = omega arith
 
 refuse-requires-2 : tie.Need-refuse-requires-2
-refuse-requires-2 c κs = search needs
+refuse-requires-2 c κs = tt
 
 returns-2 : tie.Need-returns-2
 returns-2 c = ap Refused (c .refuse2 .ensures) ∙ other-count _ (search needs) (search needs) (search needs) (search needs) _ (word (c .before .before)) (c .before .if1 .taken)
 
 sub-closes65536 : tie.Need-sub-closes65536
-sub-closes65536 c = search needs
+sub-closes65536 c = omega arith
 
 sub-closes65536-2 : tie.Need-sub-closes65536-2
-sub-closes65536-2 c = search needs
+sub-closes65536-2 c = omega arith
 
 part-closes65536-start : tie.Need-part-closes65536-start
-part-closes65536-start c = search needs
+part-closes65536-start c = omega arith
 
 part-closes65536-end : tie.Need-part-closes65536-end
-part-closes65536-end c = search needs
+part-closes65536-end c = omega arith
 
 sub-word-of : tie.Need-sub-word-of
-sub-word-of c = search needs
+sub-word-of c = omega arith
 
 sub-word-of-2 : tie.Need-sub-word-of-2
-sub-word-of-2 c = search needs
+sub-word-of-2 c = omega arith
 
 sub-word-of-3 : tie.Need-sub-word-of-3
-sub-word-of-3 c = search needs
+sub-word-of-3 c = omega arith
 
 part-word-of-start : tie.Need-part-word-of-start
-part-word-of-start c = search needs
+part-word-of-start c = omega arith
 
 part-word-of-end : tie.Need-part-word-of-end
-part-word-of-end c = search needs
+part-word-of-end c = omega arith
 
 word-of-requires-2 : tie.Need-word-of-requires-2
-word-of-requires-2 c κs = search needs
+word-of-requires-2 c κs = tt
 
 closes65536-requires : tie.Need-closes65536-requires
-closes65536-requires c κs = search needs
+closes65536-requires c κs = tt
 
 refuse-requires-3 : tie.Need-refuse-requires-3
-refuse-requires-3 c κs = search needs
+refuse-requires-3 c κs = tt
 
 returns-3 : tie.Need-returns-3
 returns-3 c =
@@ -122,10 +123,10 @@ returns-3 c =
     (tested summed ∙ not-true _ (c .before .if2 .taken))
 
 byte-of-requires : tie.Need-byte-of-requires
-byte-of-requires c κs = search needs
+byte-of-requires c κs = tt
 
 refuse-requires-4 : tie.Need-refuse-requires-4
-refuse-requires-4 c κs = search needs
+refuse-requires-4 c κs = tt
 
 returns-4 : tie.Need-returns-4
 returns-4 c =
@@ -137,10 +138,10 @@ returns-4 c =
     (tested (two .before) ∙ not-false _ (two .if2 .left)) (λ e. c .before .if3 .taken (c .before .before .byte-of .ensures ∙ e))
 
 byte-of-requires-2 : tie.Need-byte-of-requires-2
-byte-of-requires-2 c κs = search needs
+byte-of-requires-2 c κs = tt
 
 refuse-requires-5 : tie.Need-refuse-requires-5
-refuse-requires-5 c κs = search needs
+refuse-requires-5 c κs = tt
 
 returns-5 : tie.Need-returns-5
 returns-5 c =
@@ -154,13 +155,13 @@ returns-5 c =
     (λ e. c .before .if4 .taken (c .before .before .byte-of2 .ensures ∙ e))
 
 byte-of-requires-3 : tie.Need-byte-of-requires-3
-byte-of-requires-3 c κs = search needs
+byte-of-requires-3 c κs = tt
 
 byte-of-requires-4 : tie.Need-byte-of-requires-4
-byte-of-requires-4 c κs = search needs
+byte-of-requires-4 c κs = tt
 
 sub-t6 : tie.Need-sub-t6
-sub-t6 c = search needs
+sub-t6 c = omega arith
 
 returns-6 : tie.Need-returns-6
 returns-6 c =

@@ -1,5 +1,6 @@
 -- `frames_pace::put_head` meets its contract: a count below 4,096 has a LENGTH word, and the six bytes are written as characters.
 -- Assumes nothing.
+use Rattle.characters_pace.proofs.Carried.{hex-exact}
 use Rattle.frames_pace.proofs.Writing.{no-word, head-is}
 use borrow.Author.Needs.{needs}
 use mathlib.Core.Path.{_≡_, sym, ap, _∙_}
@@ -7,7 +8,7 @@ use Rattle.frames_pace.proofs.put_head.Statement.{statement}
 use Rattle.frames_pace.proofs.put_head.Tie as tie
 
 length-word-requires : tie.Need-length-word-requires
-length-word-requires c κs = search needs
+length-word-requires c κs = tt
 
 enum-known-word : tie.Need-enum-known-word
 enum-known-word c = search needs
@@ -19,7 +20,7 @@ returns : tie.Need-returns
 returns c = no-word _ (search needs) (sym (c .before .before .length-word .ensures) ∙ c .enum-told .given .1)
 
 bytes16-requires : tie.Need-bytes16-requires
-bytes16-requires c κs = search needs
+bytes16-requires c κs = tt
 
 array-read-t14 : tie.Need-array-read-t14
 array-read-t14 c = search needs
@@ -31,7 +32,7 @@ slice-aggregate-put-hex : tie.Need-slice-aggregate-put-hex
 slice-aggregate-put-hex c = search needs
 
 put-hex-requires : tie.Need-put-hex-requires
-put-hex-requires c κs = search needs
+put-hex-requires c κs = tt
 
 same-length : tie.Need-same-length
 same-length c = search needs
@@ -41,7 +42,9 @@ returns-2 c =
     let put = c .before .before in
     let sized = put .before .before .before in
     let told = sized .before .before in
-    put .put-hex .ensures ∙ head-is _ _ _ _ _ (search needs) (sym (told .before .before .length-word .ensures) ∙ told .word .given .1) (sized .bytes16 .ensures)
+    let start = told .before .before .before .before in
+    put .put-hex .ensures ∙ hex-exact _ (start .args .out .now) (start .pre .1)
+    ∙ head-is _ _ _ _ _ (start .pre .0) (sym (told .before .before .length-word .ensures) ∙ told .word .given .1) (sized .bytes16 .ensures)
 
 pub put-head-spec : {M : Type 1} → statement M
 put-head-spec =

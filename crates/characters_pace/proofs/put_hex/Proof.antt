@@ -1,16 +1,17 @@
--- `frames_pace::put_hex` meets its contract. The loop's invariant: the characters of the bytes passed stand in front of what was there.
+-- `characters_pace::put_hex` meets its contract. The loop's invariant: the characters of the bytes passed stand in front of what was there.
 -- Assumes nothing.
-use Prim.Native.Nat.{ℕ, _+_, _-_, _*_, _≤_, _<_}
+use Prim.Native.Nat.{ℕ, _+_, _-_, _*_, _/_, _≤_, _<_}
 use mathlib.Core.Path.{_≡_, refl, sym, ap, _∙_}
-use mathlib.Core.List.{List, _++_, append-nil}
+use mathlib.Core.List.{List, _++_}
 use native.Mathlib.Omega.{arith}
-use lib.ListN.{length, take, drop, length-set, drop-of-length-le}
+use lib.ListN.{length, take, drop, length-set}
 use lib.Seq.{take-all}
 use borrow.Author.Needs.{needs}
-use Rattle.frames_pace.specs.Characters.{hexed}
-use Rattle.frames_pace.proofs.Carried.{hexed-more}
-use Rattle.frames_pace.proofs.put_hex.Statement.{statement}
-use Rattle.frames_pace.proofs.put_hex.Tie as tie
+use borrow.Author.Tests.{lt-ltb, le-ltb}
+use Rattle.characters_pace.specs.Characters.{hexed}
+use Rattle.characters_pace.proofs.Carried.{hexed-more}
+use Rattle.characters_pace.proofs.put_hex.Statement.{statement}
+use Rattle.characters_pace.proofs.put_hex.Tie as tie
 
 abbrev Inv-loop : tie.InvT-loop
 Inv-loop bytes out₀ i₀ out i = (i ≤ length bytes) × ((out ≡ hexed (take i bytes) ++ drop (2 * i) out₀) × (length out ≡ length out₀))
@@ -18,15 +19,18 @@ Inv-loop bytes out₀ i₀ out i = (i ≤ length bytes) × ((out ≡ hexed (take
 abbrev μ-loop : tie.MeasureT-loop
 μ-loop bytes out₀ i₀ out i = length bytes - i
 
+returns : tie.Need-returns Inv-loop μ-loop
+returns c = rw (lt-ltb _ _ (c .if1 .taken))
+
 loop-holds : tie.Need-loop-holds Inv-loop μ-loop
 unfolding hexed
 loop-holds c = (omega arith, (refl, refl))
 
 shared-slice-read-write-byte : tie.Need-shared-slice-read-write-byte Inv-loop μ-loop
-shared-slice-read-write-byte c = search needs
+shared-slice-read-write-byte c = omega arith
 
 write-byte-requires : tie.Need-write-byte-requires Inv-loop μ-loop
-write-byte-requires c κs = search needs
+write-byte-requires c κs = tt
 
 array-read-out : tie.Need-array-read-out Inv-loop μ-loop
 array-read-out c = search needs
@@ -58,11 +62,11 @@ loop-less c = omega arith
 loop-again : tie.Need-loop-again Inv-loop μ-loop
 loop-again c =
     let turn = c .before .before in
-    let a = turn .before .before .before .before .args in
+    let a = turn .before .before .before .before .before .args in
     let l = turn .before .loop in (
       omega arith,
       (
-        hexed-more (a .bytes .now) (a .out .now) (l .out) (c .write-byte .result) (l .i) (l .inv .1 .0) (omega arith) (search needs) (c .write-byte .ensures),
+        hexed-more (a .bytes .now) (a .out .now) (l .out) (c .write-byte .result) (l .i) (l .inv .1 .0) (omega arith) (omega arith) (c .write-byte .ensures),
         simp length-set (l .inv .1 .1),
       ),
     )
@@ -70,13 +74,13 @@ loop-again c =
 same-length : tie.Need-same-length Inv-loop μ-loop
 same-length c = omega arith
 
-returns : tie.Need-returns Inv-loop μ-loop
-returns c =
-    let a = c .before .before .before .before .args in
+returns-2 : tie.Need-returns-2 Inv-loop μ-loop
+returns-2 c =
+    let a = c .before .before .before .before .before .args in
     let l = c .before .loop in
+    let at : l .i ≡ length (a .bytes .now) = omega arith in
     let done = take-all (l .i) (a .bytes .now) (omega arith) in
-    let none = drop-of-length-le (a .out .now) {i = 2 * l .i} (omega arith) in
-    l .inv .1 .0 ∙ rw (done, none) (append-nil (hexed (a .bytes .now)))
+    l .inv .1 .0 ∙ rw (done, at, le-ltb _ _ (c .before .before .if1 .left))
 
 pub put-hex-spec : {M : Type 1} → statement M
 put-hex-spec =
@@ -84,6 +88,7 @@ put-hex-spec =
     (tie.spec
     Inv-loop
     μ-loop
+    returns
     loop-holds
     shared-slice-read-write-byte
     write-byte-requires
@@ -98,4 +103,4 @@ put-hex-spec =
     loop-less
     loop-again
     same-length
-    returns)
+    returns-2)

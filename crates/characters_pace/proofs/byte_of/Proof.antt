@@ -1,29 +1,29 @@
--- `frames_pace::byte_of` meets its contract: byte i has the characters 2 i and 2 i + 1, and past half the length there is none.
+-- `characters_pace::byte_of` meets its contract: byte i has the characters 2 i and 2 i + 1, and past half the length there is none.
 -- Assumes nothing.
 use mathlib.Core.Path.{sym, _∙_}
 use native.Mathlib.Omega.{arith}
-use Rattle.frames_pace.proofs.Carried.{bytes-at, bytes-past}
+use Rattle.characters_pace.proofs.Carried.{bytes-at, bytes-past}
 use borrow.Author.Needs.{needs}
-use Rattle.frames_pace.proofs.byte_of.Statement.{statement}
-use Rattle.frames_pace.proofs.byte_of.Tie as tie
+use Rattle.characters_pace.proofs.byte_of.Statement.{statement}
+use Rattle.characters_pace.proofs.byte_of.Tie as tie
 
 mul-pair-of : tie.Need-mul-pair-of
-mul-pair-of c = search needs
+mul-pair-of c = omega arith
 
 shared-slice-read-pair-of : tie.Need-shared-slice-read-pair-of
-shared-slice-read-pair-of c = search needs
+shared-slice-read-pair-of c = omega arith
 
 mul-pair-of-2 : tie.Need-mul-pair-of-2
-mul-pair-of-2 c = search needs
+mul-pair-of-2 c = omega arith
 
 add-pair-of : tie.Need-add-pair-of
-add-pair-of c = search needs
+add-pair-of c = omega arith
 
 shared-slice-read-pair-of-2 : tie.Need-shared-slice-read-pair-of-2
-shared-slice-read-pair-of-2 c = search needs
+shared-slice-read-pair-of-2 c = omega arith
 
 pair-of-requires : tie.Need-pair-of-requires
-pair-of-requires c κs = search needs
+pair-of-requires c κs = tt
 
 returns : tie.Need-returns
 returns c = let a = c .before .before .before .before .before .args in c .pair-of .ensures ∙ sym (bytes-at (a .s .now) (a .i) (search needs))

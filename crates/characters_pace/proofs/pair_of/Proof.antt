@@ -1,10 +1,10 @@
--- `frames_pace::pair_of` meets its contract: the reading of the byte tells.
+-- `characters_pace::pair_of` meets its contract: the reading of the byte tells.
 -- Assumes nothing.
 use mathlib.Core.Path.{sym, ap, _∙_}
-use Rattle.frames_pace.specs.Characters.{valueIn}
+use Rattle.characters_pace.specs.Characters.{valueIn}
 use borrow.Author.Needs.{needs}
-use Rattle.frames_pace.proofs.pair_of.Statement.{statement}
-use Rattle.frames_pace.proofs.pair_of.Tie as tie
+use Rattle.characters_pace.proofs.pair_of.Statement.{statement}
+use Rattle.characters_pace.proofs.pair_of.Tie as tie
 
 read-byte-requires : tie.Need-read-byte-requires
 read-byte-requires c κs = search needs

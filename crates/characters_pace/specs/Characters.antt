@@ -1,9 +1,11 @@
 -- Bytes and the characters that carry them, two hex digits a byte, the high one first (01, PACE).
 -- Assumes nothing.
 use mathlib.Core.Bool.{Bool, true, false, _&&_}
-use mathlib.Core.List.{List, [], _∷_}
-use Prim.Native.Nat.{ℕ, _+_, _/_, _%_}
-use lib.ListN.{getD}
+use mathlib.Core.List.{List, [], _∷_, _++_}
+use Prim.Native.Nat.{ℕ, _+_, _*_, _/_, _%_}
+use lib.Dec.{ltb}
+use lib.ListN.{length, getD, drop}
+use Rattle.laws.specs.Choice.{pick}
 use Rattle.digits.specs.declared.Hex.{Hex}
 use Rattle.digits.specs.declared.Hex.the-variants.{Value, Other}
 use Rattle.digits.specs.Hexes.{digitOf, byteOf, charOf}
@@ -38,3 +40,7 @@ hexed (b ∷ s) = charOf (b / 16) ∷ charOf (b % 16) ∷ hexed s
 -- the number of the two bytes from place i on
 abbrev pub wordAt : List ℕ → ℕ → ℕ
 wordAt d i = numberOf HighFirst (getD d i 0 ∷ getD d (i + 1) 0 ∷ [])
+
+-- the room after bytes were written to its front as characters; as it was where they do not fit
+abbrev pub hexAfter : List ℕ → List ℕ → List ℕ
+hexAfter bs out = pick (ltb (length out / 2) (length bs)) out (hexed bs ++ drop (2 * length bs) out)

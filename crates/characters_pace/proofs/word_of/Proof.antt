@@ -1,24 +1,24 @@
--- `frames_pace::word_of` meets its contract: two bytes, and past the end both are 0.
+-- `characters_pace::word_of` meets its contract: two bytes, and past the end both are 0.
 -- Assumes nothing.
 use mathlib.Core.Path.{sym, _∙_}
 use native.Mathlib.Omega.{arith}
 use Prim.Native.Nat.{_+_}
-use Rattle.frames_pace.proofs.Carried.{bytes-past}
+use Rattle.characters_pace.proofs.Carried.{bytes-past}
 use borrow.Author.Needs.{needs}
-use Rattle.frames_pace.proofs.word_of.Statement.{statement}
-use Rattle.frames_pace.proofs.word_of.Tie as tie
+use Rattle.characters_pace.proofs.word_of.Statement.{statement}
+use Rattle.characters_pace.proofs.word_of.Tie as tie
 
 byte-of-requires : tie.Need-byte-of-requires
-byte-of-requires c κs = search needs
+byte-of-requires c κs = tt
 
 add-byte-of : tie.Need-add-byte-of
-add-byte-of c = search needs
+add-byte-of c = omega arith
 
 byte-of-requires-2 : tie.Need-byte-of-requires-2
-byte-of-requires-2 c κs = search needs
+byte-of-requires-2 c κs = tt
 
 number16-requires : tie.Need-number16-requires
-number16-requires c κs = search needs
+number16-requires c κs = tt
 
 returns : tie.Need-returns
 returns c = search needs

@@ -3,13 +3,13 @@
 -- Assumes nothing.
 use mathlib.Core.Path.{_≡_, refl, sym, ap, ap₂, _∙_}
 use mathlib.Core.Bool.{Bool, true, false, _&&_}
-use mathlib.Core.List.{List, [], _∷_, _++_, append-assoc}
+use mathlib.Core.List.{List, [], _∷_, _++_, append-assoc, append-nil}
 use Prim.Native.Nat.{ℕ, zero, suc, _+_, _-_, _*_, _/_, _%_, _<_, _≤_}
 use native.Mathlib.Numerals.{add-one}
 use native.Mathlib.Omega.{arith}
 use borrow.Author.Tests.{ltb-true, ltb-false, le-ltb}
 use lib.Dec.{ltb}
-use lib.ListN.{length, getD, take, drop, set, length-append, List·getD-eq-default}
+use lib.ListN.{length, getD, take, drop, set, length-append, drop-of-length-le, List·getD-eq-default}
 use lib.Seq.{take-suc, length-take-le}
 use Rattle.laws.proofs.Filling.{one-more}
 use Rattle.laws.proofs.Walk.{left-next, left-none}
@@ -19,7 +19,7 @@ use Rattle.digits.specs.Hexes.{digitOf, byteOf, joined, charOf, charsOf}
 use Rattle.digits.proofs.Characters.{digit-reads-back, digit-small, byte-reads-back, byte-writes-back}
 use Rattle.laws.proofs.Ladders.{both}
 use Rattle.numbers.proofs.Orders.{Bytes}
-use Rattle.frames_pace.specs.Characters.{valueIn, isValue, allHex, bytesIn, hexed}
+use Rattle.characters_pace.specs.Characters.{valueIn, isValue, allHex, bytesIn, hexed, hexAfter}
 
 -- ---- places
 
@@ -76,7 +76,7 @@ unfolding allHex
 all-none s i h = ap allHex (left-none s i h)
 
 -- two characters more, over what was there
-pub hexed-more : (bs old out pair : List ℕ) (i : ℕ) → out ≡ hexed (take i bs) ++ drop (2 * i) old → i < length bs → length old ≡ 2 * length bs
+pub hexed-more : (bs old out pair : List ℕ) (i : ℕ) → out ≡ hexed (take i bs) ++ drop (2 * i) old → i < length bs → 2 * length bs ≤ length old
     → pair ≡ charsOf (getD bs i 0)
     → set (set out (2 * i) (getD pair 0 0)) (2 * i + 1) (getD pair 1 0) ≡ hexed (take (i + 1) bs) ++ drop (2 * (i + 1)) old
 unfolding hexed
@@ -87,6 +87,13 @@ hexed-more bs old out pair i o h room p =
     let long2 : length (front ++ charOf (b / 16) ∷ []) ≡ 2 * i + 1 = length-append front (charOf (b / 16) ∷ []) ∙ ap (λ (n : ℕ). n + 1) long in
     let next : 2 * i + 1 + 1 ≡ 2 * (i + 1) = omega arith in
     rw (o, p, one-more front old (2 * i) (charOf (b / 16)) 0 long (omega arith), one-more (front ++ charOf (b / 16) ∷ []) old (2 * i + 1) (charOf (b % 16)) 0 long2 (omega arith), next, add-one i, take-suc bs i 0 h, hexed-append (take i bs) (b ∷ []), append-assoc front (charOf (b / 16) ∷ []) (charOf (b % 16) ∷ []))
+
+-- room of just the right size holds the characters alone
+pub hex-exact : (bs out : List ℕ) → length out ≡ 2 * length bs → hexAfter bs out ≡ hexed bs
+hex-exact bs out e =
+    let fits : length bs ≤ length out / 2 = omega arith in
+    let none : drop (2 * length bs) out ≡ [] = drop-of-length-le out {i = 2 * length bs} (omega arith) in
+    rw (le-ltb _ _ fits, none) (append-nil (hexed bs))
 
 -- ---- written, then read
 

@@ -1,4 +1,4 @@
--- `frames_pace::all_hex` meets its contract. The loop's invariant: what is left has the answer of the whole.
+-- `characters_pace::all_hex` meets its contract. The loop's invariant: what is left has the answer of the whole.
 -- Assumes nothing.
 use Prim.Native.Nat.{ℕ, _+_, _-_, _≤_, _<_}
 use mathlib.Core.Path.{_≡_, refl, sym, ap, _∙_}
@@ -7,10 +7,10 @@ use native.Mathlib.Omega.{arith}
 use lib.ListN.{length, drop}
 use borrow.Author.Needs.{needs}
 use borrow.Author.Tests.{not-true, not-false}
-use Rattle.frames_pace.specs.Characters.{allHex}
-use Rattle.frames_pace.proofs.Carried.{all-next, all-none}
-use Rattle.frames_pace.proofs.all_hex.Statement.{statement}
-use Rattle.frames_pace.proofs.all_hex.Tie as tie
+use Rattle.characters_pace.specs.Characters.{allHex}
+use Rattle.characters_pace.proofs.Carried.{all-next, all-none}
+use Rattle.characters_pace.proofs.all_hex.Statement.{statement}
+use Rattle.characters_pace.proofs.all_hex.Tie as tie
 
 abbrev Inv-loop : tie.InvT-loop
 Inv-loop s i₀ i = (i ≤ length s) × (allHex (drop i s) ≡ allHex s)
@@ -22,10 +22,10 @@ loop-holds : tie.Need-loop-holds Inv-loop μ-loop
 loop-holds c = (omega arith, refl)
 
 shared-slice-read-is-hex : tie.Need-shared-slice-read-is-hex Inv-loop μ-loop
-shared-slice-read-is-hex c = search needs
+shared-slice-read-is-hex c = omega arith
 
 is-hex-requires : tie.Need-is-hex-requires Inv-loop μ-loop
-is-hex-requires c κs = search needs
+is-hex-requires c κs = tt
 
 returns : tie.Need-returns Inv-loop μ-loop
 returns c =
@@ -36,7 +36,7 @@ returns c =
     sym (ap (λ (t : Bool). t && allHex (drop (l .i + 1) s)) off) ∙ sym (all-next s (l .i) (omega arith)) ∙ l .inv .1
 
 add-i : tie.Need-add-i Inv-loop μ-loop
-add-i c = search needs
+add-i c = omega arith
 
 loop-less : tie.Need-loop-less Inv-loop μ-loop
 loop-less c = omega arith
