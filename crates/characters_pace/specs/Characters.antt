@@ -2,7 +2,7 @@
 -- Assumes nothing.
 use mathlib.Core.Bool.{Bool, true, false, _&&_}
 use mathlib.Core.List.{List, [], _∷_, _++_}
-use Prim.Native.Nat.{ℕ, _+_, _*_, _/_, _%_}
+use Prim.Native.Nat.{ℕ, zero, suc, _+_, _*_, _/_, _%_}
 use lib.Dec.{ltb}
 use lib.ListN.{length, getD, drop}
 use Rattle.laws.specs.Choice.{pick}
@@ -40,6 +40,19 @@ hexed (b ∷ s) = charOf (b / 16) ∷ charOf (b % 16) ∷ hexed s
 -- the number of the two bytes from place i on
 abbrev pub wordAt : List ℕ → ℕ → ℕ
 wordAt d i = numberOf HighFirst (getD d i 0 ∷ getD d (i + 1) 0 ∷ [])
+
+-- what f gives at 0, 1, .., k - 1
+unfoldable pub firsts : {A : Type 0} → (ℕ → A) → ℕ → List A
+firsts f zero = []
+firsts f (suc k) = firsts f k ++ (f k ∷ [])
+
+-- k bytes from a place on
+abbrev pub bytesAt : ℕ → ℕ → List ℕ → List ℕ
+bytesAt at k d = firsts (λ i. getD d (at + i) 0) k
+
+-- k numbers of two bytes from a place on
+abbrev pub wordsAt : ℕ → ℕ → List ℕ → List ℕ
+wordsAt at k d = firsts (λ i. wordAt d (at + 2 * i)) k
 
 -- the room after bytes were written to its front as characters; as it was where they do not fit
 abbrev pub hexAfter : List ℕ → List ℕ → List ℕ

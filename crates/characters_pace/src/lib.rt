@@ -6,9 +6,9 @@ use digits::write_byte;
 use numbers::Order;
 use numbers::number16;
 ghost use mathlib.Core.Path.{_≡_};
-ghost use lib.ListN.{getD};
+ghost use lib.ListN.{length, getD};
 ghost use Rattle.digits.specs.Hexes.{digitOf, byteOf};
-ghost use Rattle.characters_pace.specs.Characters.{valueIn, isValue, allHex, bytesIn, wordAt, hexAfter};
+ghost use Rattle.characters_pace.specs.Characters.{valueIn, isValue, allHex, bytesIn, wordAt, bytesAt, wordsAt, hexAfter};
 
 // Whether each character is one of 0-9 and A-F.
 pub fn all_hex(s: &[u8]) -> bool
@@ -54,6 +54,30 @@ pub fn word_of(s: &[u8], i: usize) -> u16
         number16(Order::HighFirst, byte_of(s, i), byte_of(s, i + 1))
     } else {
         0
+    }
+}
+
+// Fills the row with the bytes from place `at` on.
+pub fn bytes_of(s: &[u8], at: u8, row: &mut [u8])
+    ensures { λ _. ⌜ now (row .exit) ≡ bytesAt at (length (now (row .entry))) (bytesIn (now (s .entry))) ⌝ }
+{
+    let from = at as usize;
+    let mut i = 0;
+    while i < row.len() {
+        row[i] = byte_of(s, from + i);
+        i += 1;
+    }
+}
+
+// Fills the row with the numbers of two bytes from place `at` on.
+pub fn words_of(s: &[u8], at: u8, row: &mut [u16])
+    ensures { λ _. ⌜ now (row .exit) ≡ wordsAt at (length (now (row .entry))) (bytesIn (now (s .entry))) ⌝ }
+{
+    let from = at as usize;
+    let mut i = 0;
+    while i < row.len() {
+        row[i] = word_of(s, from + 2 * i);
+        i += 1;
     }
 }
 

@@ -1,0 +1,42 @@
+-- The first k of what a function gives: one more at the end, one more at the front, and a row that is filled with them.
+-- Assumes nothing.
+use mathlib.Core.Path.{_≡_, refl, sym, ap, ap₂, _∙_}
+use mathlib.Core.List.{List, [], _∷_, _++_, append-nil}
+use Prim.Native.Nat.{ℕ, zero, suc, _+_, _<_, _≤_}
+use native.Mathlib.Nat.{le-of-suc-le-suc}
+use native.Mathlib.Numerals.{add-one}
+use native.Mathlib.Omega.{arith}
+use lib.ListN.{length, drop, set, length-append, drop-of-length-le}
+use Rattle.laws.proofs.Filling.{one-more}
+use Rattle.characters_pace.specs.Characters.{firsts}
+
+module _ {A : Type 0} (f : ℕ → A) where
+  pub firsts-length : (k : ℕ) → length (firsts f k) ≡ k
+  unfolding firsts
+  firsts-length zero = refl
+  firsts-length (suc k) = length-append (firsts f k) (f k ∷ []) ∙ omega (arith, firsts-length k)
+
+  -- a turn of a loop that fills a row
+  pub firsts-more : (old row : List A) (i : ℕ) (v : A) → row ≡ firsts f i ++ drop i old → i < length old → v ≡ f i
+      → set row i v ≡ firsts f (i + 1) ++ drop (i + 1) old
+  unfolding firsts
+  firsts-more old row i v e h w =
+      ap₂ (λ (l : List A) (x : A). set l i x) e w
+      ∙ one-more (firsts f i) old i (f i) (f i) (firsts-length i) h
+      ∙ ap (λ (k : ℕ). firsts f k ++ drop (i + 1) old) (sym (add-one i))
+
+  -- the row is full
+  pub firsts-all : (old row : List A) (i : ℕ) → row ≡ firsts f i ++ drop i old → i ≡ length old → row ≡ firsts f (length old)
+  firsts-all old row i e h = e ∙ rw (h, drop-of-length-le old {i = length old} (omega arith)) (append-nil (firsts f (length old)))
+
+-- one at the front
+pub firsts-cons : {A : Type 0} (f : ℕ → A) (k : ℕ) → firsts f (suc k) ≡ f 0 ∷ firsts (λ i. f (suc i)) k
+unfolding firsts
+firsts-cons f zero = refl
+firsts-cons f (suc k) = ap (λ l. l ++ (f (suc k) ∷ [])) (firsts-cons f k)
+
+-- functions that agree below k give the same
+pub firsts-same : {A : Type 0} (f g : ℕ → A) (k : ℕ) → ((i : ℕ) → i < k → f i ≡ g i) → firsts f k ≡ firsts g k
+unfolding firsts
+firsts-same f g zero h = refl
+firsts-same f g (suc k) h = ap₂ (λ l x. l ++ (x ∷ [])) (firsts-same f g k (λ i b. h i (omega arith))) (h k (omega arith))
