@@ -21,10 +21,14 @@ abbrev pub isValue : Hex → Bool
 isValue (Value v) = true
 isValue Other = false
 
+-- a test that holds of each
+unfoldable pub allOf : (ℕ → Bool) → List ℕ → Bool
+allOf p [] = true
+allOf p (x ∷ s) = p x && allOf p s
+
 -- every character is one of 0-9 and A-F
-unfoldable pub allHex : List ℕ → Bool
-allHex [] = true
-allHex (c ∷ s) = isValue (digitOf c) && allHex s
+abbrev pub allHex : List ℕ → Bool
+allHex s = allOf (λ c. isValue (digitOf c)) s
 
 -- the bytes of characters taken two by two; one left over is no byte
 unfoldable pub bytesIn : List ℕ → List ℕ
@@ -32,10 +36,14 @@ bytesIn [] = []
 bytesIn (h ∷ []) = []
 bytesIn (h ∷ l ∷ s) = valueIn (byteOf h l) ∷ bytesIn s
 
+-- each number as its high and its low half
+unfoldable pub halves : (ℕ → ℕ) → (ℕ → ℕ) → List ℕ → List ℕ
+halves high low [] = []
+halves high low (x ∷ s) = high x ∷ low x ∷ halves high low s
+
 -- the characters of bytes
-unfoldable pub hexed : List ℕ → List ℕ
-hexed [] = []
-hexed (b ∷ s) = charOf (b / 16) ∷ charOf (b % 16) ∷ hexed s
+abbrev pub hexed : List ℕ → List ℕ
+hexed s = halves (λ b. charOf (b / 16)) (λ b. charOf (b % 16)) s
 
 -- the number of the two bytes from place i on
 abbrev pub wordAt : List ℕ → ℕ → ℕ

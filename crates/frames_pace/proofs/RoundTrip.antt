@@ -10,6 +10,7 @@ use lib.ListN.{length, getD, take, drop}
 use Rattle.checks.specs.Sums.{total, closing, closes}
 use Rattle.checks.proofs.Closing.{closing-lt, test-closing, test-only}
 use Rattle.digits.specs.declared.Length.the-variants.{Is}
+use Rattle.digits.specs.Hexes.{digitOf}
 use Rattle.digits.specs.Lengths.{lowDigits, lengthWord, countOf}
 use Rattle.digits.proofs.Counts.{count-reads-back, word-writes-back}
 use Rattle.laws.proofs.Walk.{left-next, left-none}
@@ -18,15 +19,19 @@ use Rattle.numbers.specs.declared.Order.the-variants.{HighFirst}
 use Rattle.numbers.specs.Bytes.{bytesOf}
 use Rattle.numbers.proofs.Orders.{Bytes, written-reads-back, read-writes-back}
 use Rattle.frames_pace.specs.declared.Frame.the-variants.{Whole}
-use Rattle.characters_pace.specs.Characters.{allHex, bytesIn, hexed, wordAt}
+use Rattle.characters_pace.specs.Characters.{isValue, allHex, bytesIn, hexed, wordAt}
 use Rattle.frames_pace.specs.Frame.{innerOf, headOf, coveredOf, checkOf, infoOf, payloadOf, frameOf}
 use Rattle.frames_pace.specs.Written.{headBytes, bodyChars, endChars, frameChars}
-use Rattle.characters_pace.proofs.Carried.{hexed-length, hexed-all, hexed-reads-back, all-append, bytes-length, all-split, bytes-small, read-writes-back as hexes-back}
+use Rattle.characters_pace.proofs.Carried.{hexed-length, hexed-all, hexed-reads-back, bytes-length, bytes-small, read-writes-back as hexes-back}
+use Rattle.characters_pace.proofs.Tests.{all-append, all-split}
 use Rattle.frames_pace.proofs.Cases.{whole}
 use Rattle.frames_pace.proofs.Parts.{Cut, pieces, cut-pieces, head-length, info-length, check-length, in-pieces}
 use Rattle.frames_pace.proofs.Whole.{Said, whole-says}
 
 -- ---- written, then read
+
+abbrev isHex : ℕ → Bool
+isHex c = isValue (digitOf c)
 
 word-small : (n : ℕ) → n < 4096 → lengthWord n < 65536
 word-small n h = omega (arith, closing-lt 16 (lit< tt) (lowDigits n))
@@ -72,8 +77,8 @@ module _ (address command : ℕ) (info : List ℕ) (a : address < 256) (c : comm
   unfolding check
   all =
       ap allHex (cut .inner)
-      ∙ all-append (hexed head) (hexed info ++ hexed check) (hexed-all head head-bytes)
-      (all-append (hexed info) (hexed check) (hexed-all info b) (hexed-all check (pair-bytes (closing 65536 sum))))
+      ∙ all-append isHex (hexed head) (hexed info ++ hexed check) (hexed-all head head-bytes)
+      (all-append isHex (hexed info) (hexed check) (hexed-all info b) (hexed-all check (pair-bytes (closing 65536 sum))))
 
   closed : closes 65536 (total (coveredOf (pieces 0x7E (hexed head) (hexed info) (hexed check) 0x0D))) (checkOf (pieces 0x7E (hexed head) (hexed info) (hexed check) 0x0D)) ≡ true
   unfolding head check sum
@@ -151,8 +156,8 @@ module _ (s : List ℕ) (a c st len k : ℕ) (w : Whole a c st len ≡ frameOf s
 
   hexes : (allHex h ≡ true) × ((allHex (infoOf s) ≡ true) × (allHex e ≡ true))
   hexes =
-      let f = all-split h (infoOf s ++ e) (sym (ap allHex (ap innerOf whole-s ∙ cut-s .inner)) ∙ d .hex) in
-      (f .0, all-split (infoOf s) e (f .1))
+      let f = all-split isHex h (infoOf s ++ e) (sym (ap allHex (ap innerOf whole-s ∙ cut-s .inner)) ∙ d .hex) in
+      (f .0, all-split isHex (infoOf s) e (f .1))
 
   -- the header was written from address, command and length
   head-again : hexed (headBytes a c len) ≡ h

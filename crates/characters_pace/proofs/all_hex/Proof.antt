@@ -7,8 +7,9 @@ use native.Mathlib.Omega.{arith}
 use lib.ListN.{length, drop}
 use borrow.Author.Needs.{needs}
 use borrow.Author.Tests.{not-true, not-false}
-use Rattle.characters_pace.specs.Characters.{allHex}
-use Rattle.characters_pace.proofs.Carried.{all-next, all-none}
+use Rattle.digits.specs.Hexes.{digitOf}
+use Rattle.characters_pace.specs.Characters.{isValue, allHex}
+use Rattle.characters_pace.proofs.Tests.{all-next, all-none}
 use Rattle.characters_pace.proofs.all_hex.Statement.{statement}
 use Rattle.characters_pace.proofs.all_hex.Tie as tie
 
@@ -33,7 +34,7 @@ returns c =
     let s = turn .before .before .before .args .s .now in
     let l = turn .before .loop in
     let off = sym (c .before .is-hex .ensures) ∙ not-true _ (c .if1 .taken) in
-    sym (ap (λ (t : Bool). t && allHex (drop (l .i + 1) s)) off) ∙ sym (all-next s (l .i) (omega arith)) ∙ l .inv .1
+    sym (ap (λ (t : Bool). t && allHex (drop (l .i + 1) s)) off) ∙ sym (all-next (λ c. isValue (digitOf c)) s (l .i) (omega arith)) ∙ l .inv .1
 
 add-i : tie.Need-add-i Inv-loop μ-loop
 add-i c = omega arith
@@ -47,13 +48,13 @@ loop-again c =
     let s = turn .before .before .before .args .s .now in
     let l = turn .before .loop in
     let on = sym (c .before .is-hex .ensures) ∙ not-false _ (c .if1 .left) in
-    (omega arith, sym (ap (λ (t : Bool). t && allHex (drop (l .i + 1) s)) on) ∙ sym (all-next s (l .i) (omega arith)) ∙ l .inv .1)
+    (omega arith, sym (ap (λ (t : Bool). t && allHex (drop (l .i + 1) s)) on) ∙ sym (all-next (λ c. isValue (digitOf c)) s (l .i) (omega arith)) ∙ l .inv .1)
 
 returns-2 : tie.Need-returns-2 Inv-loop μ-loop
 returns-2 c =
     let s = c .before .before .before .args .s .now in
     let l = c .before .loop in
-    sym (all-none s (l .i) (omega arith)) ∙ l .inv .1
+    sym (all-none (λ c. isValue (digitOf c)) s (l .i) (omega arith)) ∙ l .inv .1
 
 pub all-hex-spec : {M : Type 1} → statement M
 all-hex-spec =

@@ -1,15 +1,16 @@
 -- `characters_pace::put_hex` meets its contract. The loop's invariant: the characters of the bytes passed stand in front of what was there.
 -- Assumes nothing.
-use Prim.Native.Nat.{ℕ, _+_, _-_, _*_, _/_, _≤_, _<_}
+use Prim.Native.Nat.{ℕ, _+_, _-_, _*_, _/_, _%_, _≤_, _<_}
 use mathlib.Core.Path.{_≡_, refl, sym, ap, _∙_}
 use mathlib.Core.List.{List, _++_}
 use native.Mathlib.Omega.{arith}
-use lib.ListN.{length, take, drop, length-set}
+use lib.ListN.{length, getD, take, drop, length-set}
 use lib.Seq.{take-all}
 use borrow.Author.Needs.{needs}
 use borrow.Author.Tests.{lt-ltb, le-ltb}
-use Rattle.characters_pace.specs.Characters.{hexed}
-use Rattle.characters_pace.proofs.Carried.{hexed-more}
+use Rattle.digits.specs.Hexes.{charOf}
+use Rattle.characters_pace.specs.Characters.{halves, hexed}
+use Rattle.characters_pace.proofs.Halves.{halves-more}
 use Rattle.characters_pace.proofs.put_hex.Statement.{statement}
 use Rattle.characters_pace.proofs.put_hex.Tie as tie
 
@@ -23,7 +24,7 @@ returns : tie.Need-returns Inv-loop μ-loop
 returns c = rw (lt-ltb _ _ (c .if1 .taken))
 
 loop-holds : tie.Need-loop-holds Inv-loop μ-loop
-unfolding hexed
+unfolding halves
 loop-holds c = (omega arith, (refl, refl))
 
 shared-slice-read-write-byte : tie.Need-shared-slice-read-write-byte Inv-loop μ-loop
@@ -66,7 +67,7 @@ loop-again c =
     let l = turn .before .loop in (
       omega arith,
       (
-        hexed-more (a .bytes .now) (a .out .now) (l .out) (c .write-byte .result) (l .i) (l .inv .1 .0) (omega arith) (omega arith) (c .write-byte .ensures),
+        halves-more (λ b. charOf (b / 16)) (λ b. charOf (b % 16)) (a .bytes .now) (a .out .now) (l .out) (l .i) _ _ (l .inv .1 .0) (omega arith) (omega arith) (ap (λ (p : List ℕ). getD p 0 0) (c .write-byte .ensures)) (ap (λ (p : List ℕ). getD p 1 0) (c .write-byte .ensures)),
         simp length-set (l .inv .1 .1),
       ),
     )
