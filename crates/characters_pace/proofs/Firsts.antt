@@ -2,11 +2,10 @@
 -- Assumes nothing.
 use mathlib.Core.Path.{_≡_, refl, sym, ap, ap₂, _∙_}
 use mathlib.Core.List.{List, [], _∷_, _++_, append-nil}
-use Prim.Native.Nat.{ℕ, zero, suc, _+_, _<_, _≤_}
-use native.Mathlib.Nat.{le-of-suc-le-suc}
+use Prim.Native.Nat.{ℕ, zero, suc, _+_, _<_}
 use native.Mathlib.Numerals.{add-one}
 use native.Mathlib.Omega.{arith}
-use lib.ListN.{length, drop, set, length-append, drop-of-length-le}
+use lib.ListN.{length, getD, drop, set, length-append, drop-of-length-le}
 use Rattle.laws.proofs.Filling.{one-more}
 use Rattle.characters_pace.specs.Characters.{firsts}
 
@@ -40,3 +39,12 @@ pub firsts-same : {A : Type 0} (f g : ℕ → A) (k : ℕ) → ((i : ℕ) → i 
 unfolding firsts
 firsts-same f g zero h = refl
 firsts-same f g (suc k) h = ap₂ (λ l x. l ++ (x ∷ [])) (firsts-same f g k (λ i b. h i (omega arith))) (h k (omega arith))
+
+-- a list written out by its places
+written-out : (a : List ℕ) → firsts (λ i. getD a i 0) (length a) ≡ a
+unfolding firsts
+written-out [] = refl
+written-out (x ∷ a) = firsts-cons (λ i. getD (x ∷ a) i 0) (length a) ∙ ap (λ (l : List ℕ). x ∷ l) (written-out a)
+
+pub listed : (a : List ℕ) (n : ℕ) → length a ≡ n → firsts (λ i. getD a i 0) n ≡ a
+listed a n e = ap (λ (k : ℕ). firsts (λ i. getD a i 0) k) (sym e) ∙ written-out a

@@ -1,7 +1,7 @@
 -- A test of each number of a list: over lists put together, and along a loop.
 -- Assumes nothing.
-use mathlib.Core.Path.{_≡_, refl, ap}
-use mathlib.Core.Bool.{Bool, true, _&&_}
+use mathlib.Core.Path.{_≡_, refl, sym, ap, _∙_}
+use mathlib.Core.Bool.{Bool, true, false, _&&_}
 use mathlib.Core.List.{List, [], _∷_, _++_}
 use Prim.Native.Nat.{ℕ, _+_, _<_, _≤_}
 use lib.ListN.{length, getD, drop}
@@ -23,11 +23,21 @@ module _ (p : ℕ → Bool) where
       let f = all-split a b (e .1) in
       (rw (e .0) (f .0), f .1)
 
-  -- what is left at a place
-  pub all-next : (s : List ℕ) (i : ℕ) → i < length s → allOf p (drop i s) ≡ p (getD s i 0) && allOf p (drop (i + 1) s)
-  unfolding allOf
-  all-next s i h = ap (allOf p) (left-next s i h)
+  -- a loop along the list, for as long as what is left has the answer of the whole
+  module _ (s : List ℕ) (i : ℕ) (inv : allOf p (drop i s) ≡ allOf p s) where
+    next : i < length s → p (getD s i 0) && allOf p (drop (i + 1) s) ≡ allOf p s
+    unfolding allOf
+    next h = sym (ap (allOf p) (left-next s i h)) ∙ inv
 
-  pub all-none : (s : List ℕ) (i : ℕ) → length s ≤ i → allOf p (drop i s) ≡ true
-  unfolding allOf
-  all-none s i h = ap (allOf p) (left-none s i h)
+    -- the test fails at i
+    pub all-stopped : i < length s → p (getD s i 0) ≡ false → false ≡ allOf p s
+    all-stopped h e = rw e at (next h)
+
+    -- the test holds at i
+    pub all-passed : i < length s → p (getD s i 0) ≡ true → allOf p (drop (i + 1) s) ≡ allOf p s
+    all-passed h e = rw e at (next h)
+
+    -- nothing is left
+    pub all-ended : length s ≤ i → true ≡ allOf p s
+    unfolding allOf
+    all-ended h = sym (ap (allOf p) (left-none s i h)) ∙ inv

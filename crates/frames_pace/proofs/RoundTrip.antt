@@ -13,16 +13,15 @@ use Rattle.digits.specs.declared.Length.the-variants.{Is}
 use Rattle.digits.specs.Hexes.{digitOf}
 use Rattle.digits.specs.Lengths.{lowDigits, lengthWord, countOf}
 use Rattle.digits.proofs.Counts.{count-reads-back, word-writes-back}
-use Rattle.laws.proofs.Walk.{left-next, left-none}
-use Rattle.laws.proofs.Ladders.{both}
 use Rattle.numbers.specs.declared.Order.the-variants.{HighFirst}
 use Rattle.numbers.specs.Bytes.{bytesOf}
 use Rattle.numbers.proofs.Orders.{Bytes, written-reads-back, read-writes-back}
 use Rattle.frames_pace.specs.declared.Frame.the-variants.{Whole}
-use Rattle.characters_pace.specs.Characters.{isValue, allHex, bytesIn, hexed, wordAt}
+use Rattle.characters_pace.specs.Characters.{isValue, allHex, bytesIn, hexed, wordAt, firsts}
 use Rattle.frames_pace.specs.Frame.{innerOf, headOf, coveredOf, checkOf, infoOf, payloadOf, frameOf}
 use Rattle.frames_pace.specs.Written.{headBytes, bodyChars, endChars, frameChars}
 use Rattle.characters_pace.proofs.Carried.{hexed-length, hexed-all, hexed-reads-back, bytes-length, bytes-small, read-writes-back as hexes-back}
+use Rattle.characters_pace.proofs.Firsts.{listed}
 use Rattle.characters_pace.proofs.Tests.{all-append, all-split}
 use Rattle.frames_pace.proofs.Cases.{whole}
 use Rattle.frames_pace.proofs.Parts.{Cut, pieces, cut-pieces, head-length, info-length, check-length, in-pieces}
@@ -117,22 +116,6 @@ byte-in [] i b = lit< tt
 byte-in (x ∷ l) zero b = b .0
 byte-in (x ∷ l) (suc i) b = byte-in l i (b .1)
 
-two : (l : List ℕ) → length l ≡ 2 → l ≡ getD l 0 0 ∷ getD l 1 0 ∷ []
-two l e = left-next l 0 (omega arith) ∙ ap (λ (t : List ℕ). getD l 0 0 ∷ t) (left-next l 1 (omega arith) ∙ ap (λ (t : List ℕ). getD l 1 0 ∷ t) (left-none l 2 (omega arith)))
-
-six : (l : List ℕ) → length l ≡ 6 → l ≡ getD l 0 0 ∷ getD l 1 0 ∷ getD l 2 0 ∷ getD l 3 0 ∷ getD l 4 0 ∷ getD l 5 0 ∷ []
-six l e =
-    left-next l 0 (omega arith)
-    ∙ ap (λ (t : List ℕ). getD l 0 0 ∷ t)
-    (left-next l 1 (omega arith)
-    ∙ ap (λ (t : List ℕ). getD l 1 0 ∷ t)
-    (left-next l 2 (omega arith)
-    ∙ ap (λ (t : List ℕ). getD l 2 0 ∷ t)
-    (left-next l 3 (omega arith)
-    ∙ ap (λ (t : List ℕ). getD l 3 0 ∷ t)
-    (left-next l 4 (omega arith)
-    ∙ ap (λ (t : List ℕ). getD l 4 0 ∷ t) (left-next l 5 (omega arith) ∙ ap (λ (t : List ℕ). getD l 5 0 ∷ t) (left-none l 6 (omega arith)))))))
-
 module _ (s : List ℕ) (a c st len k : ℕ) (w : Whole a c st len ≡ frameOf s) (even : len ≡ 2 * k) where
   d : Said s a c st len
   d = whole-says s a c st len w
@@ -161,7 +144,7 @@ module _ (s : List ℕ) (a c st len k : ℕ) (w : Whole a c st len ≡ frameOf s
 
   -- the header was written from address, command and length
   head-again : hexed (headBytes a c len) ≡ h
-  unfolding h
+  unfolding h firsts
   head-again =
       let l = headOf s in
       let six-long : length l ≡ 6 = omega (arith, bytes-length h, head-length s long) in
@@ -172,7 +155,7 @@ module _ (s : List ℕ) (a c st len k : ℕ) (w : Whole a c st len ≡ frameOf s
       let pair : bytesOf HighFirst 2 (lengthWord len) ≡ x ∷ y ∷ [] =
       ap (bytesOf HighFirst 2) (word-writes-back (wordAt l 4) len small (d .word)) ∙ pair-back x y (byte-in l 4 bs) (byte-in l 5 bs) in
       let same : headBytes a c len ≡ l =
-      rw (pair, d .from, d .asks) (sym (six l six-long ∙ rw (d .version, d .cid1))) in
+      rw (pair, d .from, d .asks) (rw (d .version, d .cid1) at (listed l 6 six-long)) in
       ap hexed same ∙ hexes-back h 6 (hexes .0) (head-length s long)
 
   info-again : hexed (payloadOf s) ≡ infoOf s
@@ -183,7 +166,7 @@ module _ (s : List ℕ) (a c st len k : ℕ) (w : Whole a c st len ≡ frameOf s
 
   -- CHKSUM was written from the characters before it
   check-again : hexed (bytesOf HighFirst 2 (closing 65536 (total (h ++ infoOf s)))) ≡ e
-  unfolding e
+  unfolding e firsts
   check-again =
       let l = bytesIn e in
       let two-long : length l ≡ 2 = omega (arith, bytes-length e, check-length s long) in
@@ -194,7 +177,7 @@ module _ (s : List ℕ) (a c st len k : ℕ) (w : Whole a c st len ≡ frameOf s
       let sums : coveredOf s ≡ h ++ infoOf s = ap coveredOf whole-s ∙ cut-s .covered in
       let right : wordAt l 0 ≡ closing 65536 (total (h ++ infoOf s)) =
       test-only 65536 (lit< tt) (total (h ++ infoOf s)) (wordAt l 0) small (ap (λ (t : List ℕ). closes 65536 (total t) (wordAt l 0)) (sym sums) ∙ d .sum) in
-      ap hexed (ap (bytesOf HighFirst 2) (sym right) ∙ pair-back x y (byte-in l 0 bs) (byte-in l 1 bs) ∙ sym (two l two-long))
+      ap hexed (ap (bytesOf HighFirst 2) (sym right) ∙ pair-back x y (byte-in l 0 bs) (byte-in l 1 bs) ∙ listed l 2 two-long)
       ∙ hexes-back e 2 (hexes .1 .1) (check-length s long)
 
   -- a frame that was read is the one written from what was read

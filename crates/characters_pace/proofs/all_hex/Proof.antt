@@ -1,5 +1,6 @@
 -- `characters_pace::all_hex` meets its contract. The loop's invariant: what is left has the answer of the whole.
 -- Assumes nothing.
+use Rattle.characters_pace.proofs.Tests.{all-stopped, all-passed, all-ended}
 use Prim.Native.Nat.{ℕ, _+_, _-_, _≤_, _<_}
 use mathlib.Core.Path.{_≡_, refl, sym, ap, _∙_}
 use mathlib.Core.Bool.{Bool, true, false, _&&_}
@@ -9,7 +10,6 @@ use borrow.Author.Needs.{needs}
 use borrow.Author.Tests.{not-true, not-false}
 use Rattle.digits.specs.Hexes.{digitOf}
 use Rattle.characters_pace.specs.Characters.{isValue, allHex}
-use Rattle.characters_pace.proofs.Tests.{all-next, all-none}
 use Rattle.characters_pace.proofs.all_hex.Statement.{statement}
 use Rattle.characters_pace.proofs.all_hex.Tie as tie
 
@@ -30,11 +30,8 @@ is-hex-requires c κs = tt
 
 returns : tie.Need-returns Inv-loop μ-loop
 returns c =
-    let turn = c .before .before .before in
-    let s = turn .before .before .before .args .s .now in
-    let l = turn .before .loop in
-    let off = sym (c .before .is-hex .ensures) ∙ not-true _ (c .if1 .taken) in
-    sym (ap (λ (t : Bool). t && allHex (drop (l .i + 1) s)) off) ∙ sym (all-next (λ c. isValue (digitOf c)) s (l .i) (omega arith)) ∙ l .inv .1
+    let l = c .before .before .before .before .loop in
+    all-stopped (λ c. isValue (digitOf c)) _ (l .i) (l .inv .1) (omega arith) (sym (c .before .is-hex .ensures) ∙ not-true _ (c .if1 .taken))
 
 add-i : tie.Need-add-i Inv-loop μ-loop
 add-i c = omega arith
@@ -44,17 +41,11 @@ loop-less c = omega arith
 
 loop-again : tie.Need-loop-again Inv-loop μ-loop
 loop-again c =
-    let turn = c .before .before .before in
-    let s = turn .before .before .before .args .s .now in
-    let l = turn .before .loop in
-    let on = sym (c .before .is-hex .ensures) ∙ not-false _ (c .if1 .left) in
-    (omega arith, sym (ap (λ (t : Bool). t && allHex (drop (l .i + 1) s)) on) ∙ sym (all-next (λ c. isValue (digitOf c)) s (l .i) (omega arith)) ∙ l .inv .1)
+    let l = c .before .before .before .before .loop in
+    (omega arith, all-passed (λ c. isValue (digitOf c)) _ (l .i) (l .inv .1) (omega arith) (sym (c .before .is-hex .ensures) ∙ not-false _ (c .if1 .left)))
 
 returns-2 : tie.Need-returns-2 Inv-loop μ-loop
-returns-2 c =
-    let s = c .before .before .before .args .s .now in
-    let l = c .before .loop in
-    sym (all-none (λ c. isValue (digitOf c)) s (l .i) (omega arith)) ∙ l .inv .1
+returns-2 c = let l = c .before .loop in all-ended (λ c. isValue (digitOf c)) _ (l .i) (l .inv .1) (omega arith)
 
 pub all-hex-spec : {M : Type 1} → statement M
 all-hex-spec =

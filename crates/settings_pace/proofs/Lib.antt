@@ -1,0 +1,4 @@
+pub mod Amounts
+pub mod Judged
+pub mod Rows
+pub mod Taken
