@@ -1,4 +1,5 @@
 pub mod Amounts
 pub mod Judged
+pub mod RoundTrip
 pub mod Rows
 pub mod Taken
