@@ -13,7 +13,7 @@ use mir.Syntax.{w16, w32}
 use mir.Val.{SFits, Fits, toZ, ofZ}
 use mir.ValLaws.{toZ-ofZ}
 use Rattle.settings_pace.specs.declared.Amount.the-variants.{Is, Positive}
-use Rattle.settings_pace.specs.Info.{opposite}
+use Rattle.settings_pace.specs.Reading.{opposite}
 
 mag-neg : (x : ℤ) → mag (negℤ x) ≤ mag x + 1
 mag-neg (pos zero) = omega arith

@@ -16,15 +16,16 @@ use Rattle.refusals.specs.declared.Refusal.{Refusal}
 use Rattle.characters_pace.specs.Characters.{allOf, halves, wordAt, firsts, wordsAt}
 use Rattle.characters_pace.proofs.Firsts.{firsts-length, firsts-cons, firsts-same}
 use Rattle.characters_pace.proofs.Halves.{halves-length}
-use Rattle.settings_pace.specs.declared.Setting.{Setting}
-use Rattle.settings_pace.specs.declared.Setting.the-variants.{Overvoltage, Discharge}
-use Rattle.settings_pace.specs.declared.Row.{Row}
-use Rattle.settings_pace.specs.declared.Values.{Values}
+use Rattle.rows_pace.specs.declared.Setting.{Setting}
+use Rattle.rows_pace.specs.declared.Setting.the-variants.{Overvoltage, Discharge}
+use Rattle.rows_pace.specs.declared.Row.{Row}
+use Rattle.rows_pace.specs.declared.Values.{Values}
 use Rattle.settings_pace.specs.declared.Found.{Found}
 use Rattle.settings_pace.specs.declared.Found.the-variants.{Set, Refused}
-use Rattle.settings_pace.specs.Rows.{rowOf, settingOf, amountsOf, delayOf, valuesOf, inSteps, allowed, allowedOf}
-use Rattle.settings_pace.specs.Info.{pairsOf, payload, infoOf, shaped, wordsIn, delayIn, requestOf}
-use Rattle.settings_pace.proofs.Rows.{amounts-count, values-again, setting-again, delay-again, amounts-again}
+use Rattle.rows_pace.specs.Rows.{rowOf, settingOf, amountsOf, delayOf, valuesOf, inSteps, allowed, allowedOf}
+use Rattle.rows_pace.specs.Info.{pairsOf, payload, infoOf}
+use Rattle.settings_pace.specs.Reading.{shaped, wordsIn, delayIn, requestOf}
+use Rattle.rows_pace.proofs.Rows.{amounts-count, values-again, setting-again, delay-again, amounts-again}
 
 -- ---- two bytes at a time
 

@@ -11,13 +11,13 @@ use Rattle.laws.proofs.Filling.{front-length, front-filled, front-taken, front-
 use Rattle.refusals.specs.Refused.{refusedWith, shape, range}
 use Rattle.characters_pace.specs.Characters.{allOf, wordAt, wordsAt}
 use Rattle.characters_pace.proofs.Firsts.{firsts-length}
-use Rattle.settings_pace.specs.declared.Setting.{Setting}
-use Rattle.settings_pace.specs.declared.Row.{Row}
-use Rattle.settings_pace.specs.declared.Values.{Values}
+use Rattle.rows_pace.specs.declared.Setting.{Setting}
+use Rattle.rows_pace.specs.declared.Row.{Row}
+use Rattle.rows_pace.specs.declared.Values.{Values}
 use Rattle.settings_pace.specs.declared.Found.the-variants.{Set, Refused}
-use Rattle.settings_pace.specs.Rows.{rowOf, valuesOf, allowedOf}
-use Rattle.settings_pace.specs.Info.{shaped, wordsIn, delayIn, amountOf, isAmount, amountIn, replyOf, requestOf}
-use Rattle.settings_pace.proofs.Rows.{few, values-front}
+use Rattle.rows_pace.specs.Rows.{rowOf, valuesOf, allowedOf}
+use Rattle.settings_pace.specs.Reading.{shaped, wordsIn, delayIn, amountOf, isAmount, amountIn, replyOf, requestOf}
+use Rattle.rows_pace.proofs.Rows.{few, values-front}
 
 -- what a word of a reply becomes
 abbrev pub turns : Row → ℕ → ℕ

@@ -1,3 +1,1 @@
-pub mod Commands
-pub mod Info
-pub mod Rows
+pub mod Reading

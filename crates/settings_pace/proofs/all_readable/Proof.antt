@@ -8,7 +8,7 @@ use native.Mathlib.Omega.{arith}
 use lib.ListN.{length, drop}
 use borrow.Author.Tests.{not-true, not-false}
 use Rattle.characters_pace.specs.Characters.{allOf}
-use Rattle.settings_pace.specs.Info.{amountOf, isAmount}
+use Rattle.settings_pace.specs.Reading.{amountOf, isAmount}
 use Rattle.settings_pace.proofs.all_readable.Statement.{statement}
 use Rattle.settings_pace.proofs.all_readable.Tie as tie
 

@@ -5,7 +5,7 @@ use mir.Val.{SFits}
 use mathlib.Core.Path.{_≡_, sym, ap, _∙_}
 use mathlib.Core.Bool.{Bool, true}
 use borrow.Author.Tests.{not-true, not-false}
-use Rattle.settings_pace.specs.Info.{amountOf, opposite}
+use Rattle.settings_pace.specs.Reading.{amountOf, opposite}
 use Rattle.settings_pace.proofs.Amounts.{widened-fits, negated-fits, positive, amount-fits, amount-is}
 use borrow.Author.Needs.{needs}
 use Rattle.settings_pace.proofs.amount_of.Statement.{statement}

@@ -8,7 +8,7 @@ use Prim.Native.Nat.{ℕ}
 use native.Mathlib.Omega.{arith}
 use borrow.Author.Tests.{eq-eqb, ne-eqb}
 use Rattle.characters_pace.proofs.Carried.{bytes-length}
-use Rattle.settings_pace.specs.Info.{shaped}
+use Rattle.settings_pace.specs.Reading.{shaped}
 use borrow.Author.Needs.{needs}
 use Rattle.settings_pace.proofs.has_shape.Statement.{statement}
 use Rattle.settings_pace.proofs.has_shape.Tie as tie

@@ -1,7 +1,7 @@
 -- `settings_pace::is_readable` meets its contract: the amount tells.
 -- Assumes nothing.
 use mathlib.Core.Path.{sym, ap, _∙_}
-use Rattle.settings_pace.specs.Info.{isAmount}
+use Rattle.settings_pace.specs.Reading.{isAmount}
 use borrow.Author.Needs.{needs}
 use Rattle.settings_pace.proofs.is_readable.Statement.{statement}
 use Rattle.settings_pace.proofs.is_readable.Tie as tie

@@ -10,7 +10,7 @@ use mathlib.Core.List.{List, _++_, map}
 use mathlib.Core.Bool.{Bool}
 use native.Mathlib.Omega.{arith}
 use lib.ListN.{length, take, drop, length-set}
-use Rattle.settings_pace.specs.Info.{amountOf, amountIn}
+use Rattle.settings_pace.specs.Reading.{amountOf, amountIn}
 use Rattle.settings_pace.proofs.turn.Statement.{statement}
 use Rattle.settings_pace.proofs.turn.Tie as tie
 

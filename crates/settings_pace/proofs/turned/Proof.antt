@@ -1,7 +1,7 @@
 -- `settings_pace::turned` meets its contract: the amount tells.
 -- Assumes nothing.
 use mathlib.Core.Path.{sym, ap, _∙_}
-use Rattle.settings_pace.specs.Info.{amountIn}
+use Rattle.settings_pace.specs.Reading.{amountIn}
 use borrow.Author.Needs.{needs}
 use Rattle.settings_pace.proofs.turned.Statement.{statement}
 use Rattle.settings_pace.proofs.turned.Tie as tie

@@ -1,8 +1,8 @@
--- `settings_pace::values_of` meets its contract: by the setting.
+-- `rows_pace::values_of` meets its contract: by the setting.
 -- Assumes nothing.
 use borrow.Author.Needs.{needs}
-use Rattle.settings_pace.proofs.values_of.Statement.{statement}
-use Rattle.settings_pace.proofs.values_of.Tie as tie
+use Rattle.rows_pace.proofs.values_of.Statement.{statement}
+use Rattle.rows_pace.proofs.values_of.Tie as tie
 
 enum-told : tie.Need-enum-told
 enum-told c = search needs

@@ -1,37 +1,22 @@
--- A setting in INFO, over its row: lead byte, amounts of two bytes each with the high byte first, delay (01, PACE: D1, D0, DB, DA).
+-- A setting in the INFO of a reply or a request, over its row: the bytes d (01, PACE: D1, D0, DB, DA).
 -- Assumes nothing.
 use mathlib.Core.Bool.{Bool, true, false, _&&_}
-use mathlib.Core.List.{List, [], _∷_, _++_, map}
-use Prim.Native.Nat.{ℕ, zero, suc, _+_, _*_, _/_, _%_}
+use mathlib.Core.List.{List, map}
+use Prim.Native.Nat.{ℕ, zero, suc, _+_, _*_}
 use lib.Dec.{eqb}
 use lib.IntN.{ℤ, pos, negsuc}
 use lib.ListN.{length, getD}
 use Rattle.laws.specs.Choice.{pick}
 use Rattle.numbers.specs.Signed.{signedOf}
 use Rattle.refusals.specs.Refused.{refusedWith, shape, range}
-use Rattle.characters_pace.specs.Characters.{allOf, halves, wordsAt}
-use Rattle.settings_pace.specs.declared.Setting.{Setting}
-use Rattle.settings_pace.specs.declared.Row.{Row}
-use Rattle.settings_pace.specs.declared.Values.{Values}
+use Rattle.characters_pace.specs.Characters.{allOf, wordsAt}
+use Rattle.rows_pace.specs.declared.Setting.{Setting}
+use Rattle.rows_pace.specs.declared.Row.{Row}
+use Rattle.rows_pace.specs.Rows.{rowOf, valuesOf, allowedOf}
 use Rattle.settings_pace.specs.declared.Amount.{Amount}
 use Rattle.settings_pace.specs.declared.Amount.the-variants.{Is, Positive}
 use Rattle.settings_pace.specs.declared.Found.{Found}
 use Rattle.settings_pace.specs.declared.Found.the-variants.{Set, Refused}
-use Rattle.settings_pace.specs.Rows.{rowOf, settingOf, amountsOf, delayOf, valuesOf, allowedOf}
-
--- ---- written
-
--- numbers as two bytes each
-abbrev pub pairsOf : List ℕ → List ℕ
-pairsOf s = halves (λ n. n / 256 % 256) (λ n. n % 256) s
-
-unfoldable pub payload : Row → List ℕ → ℕ → List ℕ
-payload row amounts delay = row .lead ∷ (pairsOf amounts ++ delay ∷ [])
-
-abbrev pub infoOf : Values → List ℕ
-infoOf v = payload (rowOf (settingOf v)) (amountsOf v) (delayOf v)
-
--- ---- read: the bytes d
 
 -- of the row's length, with the row's lead byte
 unfoldable pub shaped : Row → List ℕ → Bool

@@ -1,10 +1,10 @@
--- `settings_pace::command_of` meets its contract: each code computes; the rest is none of the codes.
+-- `rows_pace::command_of` meets its contract: each code computes; the rest is none of the codes.
 -- Assumes nothing.
 use borrow.Author.Tests.{ne-eqb}
-use Rattle.settings_pace.specs.Rows.{settings, rowOf}
-use Rattle.settings_pace.specs.Commands.{bySetting, commandOf}
-use Rattle.settings_pace.proofs.command_of.Statement.{statement}
-use Rattle.settings_pace.proofs.command_of.Tie as tie
+use Rattle.rows_pace.specs.Rows.{settings, rowOf}
+use Rattle.rows_pace.specs.Commands.{bySetting, commandOf}
+use Rattle.rows_pace.proofs.command_of.Statement.{statement}
+use Rattle.rows_pace.proofs.command_of.Tie as tie
 
 returns : tie.Need-returns
 unfolding commandOf

@@ -7,11 +7,11 @@ use Prim.Native.Nat.{ℕ, _-_, _%_}
 use lib.Dec.{leb, eqb}
 use lib.ListN.{getD}
 use Rattle.characters_pace.specs.Characters.{allOf}
-use Rattle.settings_pace.specs.declared.Setting.{Setting}
-use Rattle.settings_pace.specs.declared.Setting.the-variants.{Overvoltage, Discharge}
-use Rattle.settings_pace.specs.declared.Row.{Row}
-use Rattle.settings_pace.specs.declared.Values.{Values}
-use Rattle.settings_pace.specs.declared.Values.the-variants.{CellOvervoltage, SlowDischarge}
+use Rattle.rows_pace.specs.declared.Setting.{Setting}
+use Rattle.rows_pace.specs.declared.Setting.the-variants.{Overvoltage, Discharge}
+use Rattle.rows_pace.specs.declared.Row.{Row}
+use Rattle.rows_pace.specs.declared.Values.{Values}
+use Rattle.rows_pace.specs.declared.Values.the-variants.{CellOvervoltage, SlowDischarge}
 
 -- every setting
 unfoldable pub settings : List Setting

@@ -1,9 +1,9 @@
--- `settings_pace::row_of` meets its contract: by the setting.
+-- `rows_pace::row_of` meets its contract: by the setting.
 -- Assumes nothing.
-use Rattle.settings_pace.specs.Rows.{rowOf}
+use Rattle.rows_pace.specs.Rows.{rowOf}
 use borrow.Author.Needs.{needs}
-use Rattle.settings_pace.proofs.row_of.Statement.{statement}
-use Rattle.settings_pace.proofs.row_of.Tie as tie
+use Rattle.rows_pace.proofs.row_of.Statement.{statement}
+use Rattle.rows_pace.proofs.row_of.Tie as tie
 
 enum-told : tie.Need-enum-told
 enum-told c = search needs

@@ -11,11 +11,11 @@ use lib.ListN.{length, getD, take, drop, set, replicate, length-append}
 use Rattle.laws.proofs.Filling.{one-more, part-more, front-taken}
 use Rattle.characters_pace.specs.Characters.{allOf}
 use Rattle.characters_pace.proofs.Halves.{halves-length}
-use Rattle.settings_pace.specs.declared.Row.{Row}
-use Rattle.settings_pace.specs.declared.Values.{Values}
-use Rattle.settings_pace.specs.Rows.{rowOf, settingOf, amountsOf, delayOf, inSteps, allowed, allowedOf}
-use Rattle.settings_pace.specs.Info.{pairsOf, payload, infoOf}
-use Rattle.settings_pace.proofs.Rows.{few, steps, amounts-count}
+use Rattle.rows_pace.specs.declared.Row.{Row}
+use Rattle.rows_pace.specs.declared.Values.{Values}
+use Rattle.rows_pace.specs.Rows.{rowOf, settingOf, amountsOf, delayOf, inSteps, allowed, allowedOf}
+use Rattle.rows_pace.specs.Info.{pairsOf, payload, infoOf}
+use Rattle.rows_pace.proofs.Rows.{few, steps, amounts-count}
 
 -- ---- may they be written?
 

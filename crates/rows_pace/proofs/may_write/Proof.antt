@@ -1,14 +1,14 @@
--- `settings_pace::may_write` meets its contract: the part that is lent holds the amounts, and the two tests are the definition's.
+-- `rows_pace::may_write` meets its contract: the part that is lent holds the amounts, and the two tests are the definition's.
 -- Assumes nothing.
 use lib.ListN.{length}
 use mathlib.Core.Path.{_≡_, sym, ap, _∙_}
 use native.Mathlib.Omega.{arith}
 use borrow.Author.Tests.{not-true, not-false}
-use Rattle.settings_pace.specs.Rows.{rowOf, settingOf}
-use Rattle.settings_pace.proofs.Judged.{row-few, row-steps, amounts-decide, delay-decides}
+use Rattle.rows_pace.specs.Rows.{rowOf, settingOf}
+use Rattle.rows_pace.proofs.Judged.{row-few, row-steps, amounts-decide, delay-decides}
 use borrow.Author.Needs.{needs}
-use Rattle.settings_pace.proofs.may_write.Statement.{statement}
-use Rattle.settings_pace.proofs.may_write.Tie as tie
+use Rattle.rows_pace.proofs.may_write.Statement.{statement}
+use Rattle.rows_pace.proofs.may_write.Tie as tie
 
 is-row : (c : tie.After-row-of) → c .row-of .result ≡ rowOf (settingOf (c .before .before .args .v))
 is-row c = c .row-of .ensures ∙ ap rowOf (c .before .parts-of .ensures .0)

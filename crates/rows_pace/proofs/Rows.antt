@@ -8,11 +8,11 @@ use lib.Dec.{lit<, lit≤}
 use lib.ListN.{length, List·getD-append}
 use Rattle.characters_pace.specs.Characters.{firsts}
 use Rattle.characters_pace.proofs.Firsts.{listed}
-use Rattle.settings_pace.specs.declared.Setting.{Setting}
-use Rattle.settings_pace.specs.declared.Setting.the-variants.{Overvoltage, Discharge}
-use Rattle.settings_pace.specs.declared.Values.{Values}
-use Rattle.settings_pace.specs.declared.Values.the-variants.{CellOvervoltage, SlowDischarge}
-use Rattle.settings_pace.specs.Rows.{rowOf, settingOf, amountsOf, delayOf, valuesOf}
+use Rattle.rows_pace.specs.declared.Setting.{Setting}
+use Rattle.rows_pace.specs.declared.Setting.the-variants.{Overvoltage, Discharge}
+use Rattle.rows_pace.specs.declared.Values.{Values}
+use Rattle.rows_pace.specs.declared.Values.the-variants.{CellOvervoltage, SlowDischarge}
+use Rattle.rows_pace.specs.Rows.{rowOf, settingOf, amountsOf, delayOf, valuesOf}
 
 -- three places are enough
 pub few : (s : Setting) → rowOf s .amounts ≤ 3

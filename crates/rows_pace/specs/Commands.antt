@@ -4,10 +4,10 @@ use mathlib.Core.List.{List, [], _∷_}
 use Prim.Native.Nat.{ℕ}
 use lib.Dec.{eqb}
 use Rattle.laws.specs.Choice.{pick}
-use Rattle.settings_pace.specs.declared.Command.{Command}
-use Rattle.settings_pace.specs.declared.Command.the-variants.{Analog, Warnings, Hardware, Serial, Reads, Writes, Unlisted}
-use Rattle.settings_pace.specs.declared.Setting.{Setting}
-use Rattle.settings_pace.specs.Rows.{settings, rowOf}
+use Rattle.rows_pace.specs.declared.Command.{Command}
+use Rattle.rows_pace.specs.declared.Command.the-variants.{Analog, Warnings, Hardware, Serial, Reads, Writes, Unlisted}
+use Rattle.rows_pace.specs.declared.Setting.{Setting}
+use Rattle.rows_pace.specs.Rows.{settings, rowOf}
 
 -- the setting that a command reads or writes
 unfoldable pub bySetting : List Setting → ℕ → Command
