@@ -2,11 +2,12 @@
 -- Assumes nothing.
 use mathlib.Core.Path.{_≡_, refl, sym, ap, ap₂, _∙_}
 use mathlib.Core.List.{List, [], _∷_, _++_, append-nil}
-use Prim.Native.Nat.{ℕ, zero, suc, _+_, _<_}
+use Prim.Native.Nat.{ℕ, zero, suc, _+_, _-_, _≤_, _<_}
 use native.Mathlib.Numerals.{add-one}
 use native.Mathlib.Omega.{arith}
-use lib.ListN.{length, getD, drop, set, length-append, drop-of-length-le}
-use Rattle.laws.proofs.Filling.{one-more}
+use borrow.Rule.Slice.PartMut.{putMid}
+use lib.ListN.{length, getD, take, drop, set, length-append, drop-of-length-le}
+use Rattle.laws.proofs.Filling.{one-more, front-length, front-filled}
 use Rattle.characters_pace.specs.Characters.{firsts}
 
 module _ {A : Type 0} (f : ℕ → A) where
@@ -27,6 +28,11 @@ module _ {A : Type 0} (f : ℕ → A) where
   -- the row is full
   pub firsts-all : (old row : List A) (i : ℕ) → row ≡ firsts f i ++ drop i old → i ≡ length old → row ≡ firsts f (length old)
   firsts-all old row i e h = e ∙ rw (h, drop-of-length-le old {i = length old} (omega arith)) (append-nil (firsts f (length old)))
+
+-- a front of n elements, lent as the part from 0 to n, that was filled
+pub firsts-front : {A : Type 0} (f : ℕ → A) (n : ℕ) (row part : List A) → n ≤ length row → part ≡ firsts f (length (take (n - 0) row))
+    → putMid 0 (n - 0) row part ≡ firsts f n ++ drop n row
+firsts-front f n row part h e = front-filled n row part ∙ ap (λ l. l ++ drop n row) (e ∙ ap (firsts f) (front-length n row h))
 
 -- one at the front
 pub firsts-cons : {A : Type 0} (f : ℕ → A) (k : ℕ) → firsts f (suc k) ≡ f 0 ∷ firsts (λ i. f (suc i)) k
