@@ -116,7 +116,7 @@ byte-in [] i b = lit< tt
 byte-in (x ∷ l) zero b = b .0
 byte-in (x ∷ l) (suc i) b = byte-in l i (b .1)
 
-module _ (s : List ℕ) (a c st len k : ℕ) (w : Whole a c st len ≡ frameOf s) (even : len ≡ 2 * k) where
+module _ (s : List ℕ) (a c st len : ℕ) (w : Whole a c st len ≡ frameOf s) where
   d : Said s a c st len
   d = whole-says s a c st len w
 
@@ -142,6 +142,10 @@ module _ (s : List ℕ) (a c st len k : ℕ) (w : Whole a c st len ≡ frameOf s
       let f = all-split isHex h (infoOf s ++ e) (sym (ap allHex (ap innerOf whole-s ∙ cut-s .inner)) ∙ d .hex) in
       (f .0, all-split isHex (infoOf s) e (f .1))
 
+  -- the payload is of bytes
+  pub payload-bytes : Bytes (payloadOf s)
+  payload-bytes = bytes-small (infoOf s) (hexes .1 .0)
+
   -- the header was written from address, command and length
   head-again : hexed (headBytes a c len) ≡ h
   unfolding h firsts
@@ -157,12 +161,6 @@ module _ (s : List ℕ) (a c st len k : ℕ) (w : Whole a c st len ≡ frameOf s
       let same : headBytes a c len ≡ l =
       rw (pair, d .from, d .asks) (rw (d .version, d .cid1) at (listed l 6 six-long)) in
       ap hexed same ∙ hexes-back h 6 (hexes .0) (head-length s long)
-
-  info-again : hexed (payloadOf s) ≡ infoOf s
-  info-again = hexes-back (infoOf s) k (hexes .1 .0) (info-length s long ∙ omega (arith, d .size))
-
-  payload-length : 2 * length (payloadOf s) ≡ len
-  payload-length = omega (arith, bytes-length (infoOf s), info-length s long, d .size)
 
   -- CHKSUM was written from the characters before it
   check-again : hexed (bytesOf HighFirst 2 (closing 65536 (total (h ++ infoOf s)))) ≡ e
@@ -180,14 +178,21 @@ module _ (s : List ℕ) (a c st len k : ℕ) (w : Whole a c st len ≡ frameOf s
       ap hexed (ap (bytesOf HighFirst 2) (sym right) ∙ pair-back x y (byte-in l 0 bs) (byte-in l 1 bs) ∙ listed l 2 two-long)
       ∙ hexes-back e 2 (hexes .1 .1) (check-length s long)
 
-  -- a frame that was read is the one written from what was read
-  pub frame-writes-back : frameChars a c (payloadOf s) ≡ s
-  unfolding frameChars
-  frame-writes-back =
-      let body : bodyChars a c (payloadOf s) ≡ h ++ infoOf s =
-      ap₂ _++_ (ap (λ (n : ℕ). hexed (headBytes a c n)) payload-length ∙ head-again) info-again in
-      ap (λ (l : List ℕ). 0x7E ∷ (l ++ endChars l)) body
-      ∙ ap (λ (l : List ℕ). 0x7E ∷ ((h ++ infoOf s) ++ (l ++ 0x0D ∷ []))) check-again
-      ∙ ap (λ (l : List ℕ). 0x7E ∷ l) (append-assoc h (infoOf s) (e ++ 0x0D ∷ []))
-      ∙ ap₂ (λ (m z : ℕ). pieces m h (infoOf s) e z) (sym (d .first)) (sym (d .last))
-      ∙ sym whole-s
+  module _ (k : ℕ) (even : len ≡ 2 * k) where
+    info-again : hexed (payloadOf s) ≡ infoOf s
+    info-again = hexes-back (infoOf s) k (hexes .1 .0) (info-length s long ∙ omega (arith, d .size))
+
+    payload-length : 2 * length (payloadOf s) ≡ len
+    payload-length = omega (arith, bytes-length (infoOf s), info-length s long, d .size)
+
+    -- a frame that was read is the one written from what was read
+    pub frame-writes-back : frameChars a c (payloadOf s) ≡ s
+    unfolding frameChars
+    frame-writes-back =
+        let body : bodyChars a c (payloadOf s) ≡ h ++ infoOf s =
+        ap₂ _++_ (ap (λ (n : ℕ). hexed (headBytes a c n)) payload-length ∙ head-again) info-again in
+        ap (λ (l : List ℕ). 0x7E ∷ (l ++ endChars l)) body
+        ∙ ap (λ (l : List ℕ). 0x7E ∷ ((h ++ infoOf s) ++ (l ++ 0x0D ∷ []))) check-again
+        ∙ ap (λ (l : List ℕ). 0x7E ∷ l) (append-assoc h (infoOf s) (e ++ 0x0D ∷ []))
+        ∙ ap₂ (λ (m z : ℕ). pieces m h (infoOf s) e z) (sym (d .first)) (sym (d .last))
+        ∙ sym whole-s

@@ -4,18 +4,22 @@ use mathlib.Core.Path.{_≡_, refl, sym, ap, ap₂, _∙_}
 use mathlib.Core.List.{List, [], _∷_, _++_, append-assoc}
 use Prim.Native.Nat.{ℕ, _+_, _-_, _*_, _<_, _≤_}
 use native.Mathlib.Omega.{arith}
-use borrow.Author.Tests.{lt-ltb}
+use borrow.Author.Tests.{lt-ltb, le-ltb, ltb-false}
 use borrow.Rule.Slice.PartMut.{putMid}
 use lib.ListN.{length, getD, take, drop, set, length-append, length-drop, take-append-drop}
 use lib.Seq.{take-at, drop-drop, drop-append-add, length-take-le}
+use lib.Dec.{ltb}
 use Rattle.laws.proofs.Filling.{one-more, part-more, part-length}
+use Rattle.laws.proofs.Ladders.{past}
 use Rattle.checks.specs.Sums.{total, closing}
 use Rattle.digits.specs.declared.Length.the-variants.{Is, Wrong}
 use Rattle.digits.specs.Lengths.{wordOf, lengthWord}
 use Rattle.numbers.specs.declared.Order.the-variants.{HighFirst}
 use Rattle.numbers.specs.Bytes.{bytesOf}
 use Rattle.characters_pace.specs.Characters.{hexed, hexAfter}
-use Rattle.frames_pace.specs.Written.{headBytes, bodyChars, endChars, frameChars, sealed}
+use Rattle.refusals.specs.declared.Refusal.{Refusal}
+use Rattle.frames_pace.specs.declared.Written.the-variants.{Frame, Refused}
+use Rattle.frames_pace.specs.Written.{headBytes, bodyChars, endChars, frameChars, writtenOf, sealed}
 use Rattle.characters_pace.proofs.Carried.{hexed-length, hex-exact}
 
 -- ---- the header
@@ -104,3 +108,29 @@ frame-is old head load info address command n room e h put =
     ∙ ap (λ (k : ℕ). sealed n (0x7E ∷ ((head ++ load) ++ drop k old))) at
     ∙ closed-front (head ++ load) old n long
     ∙ ap (λ (s : List ℕ). (0x7E ∷ (s ++ endChars s)) ++ drop (n + 18) old) body
+
+-- ---- the answers
+
+pub chars-length : (address command : ℕ) (info : List ℕ) → length (frameChars address command info) ≡ 2 * length info + 18
+unfolding frameChars
+chars-length address command info =
+    let body = bodyChars address command info in
+    let sum = bytesOf HighFirst 2 (closing 65536 (total body)) in
+    let a = length-append body (endChars body) in
+    let b = length-append (hexed (headBytes address command (2 * length info))) (hexed info) in
+    let c = length-append (hexed sum) (0x0D ∷ []) in
+    omega (arith, hexed-length (headBytes address command (2 * length info)), hexed-length info, hexed-length sum)
+
+not-refused : (n : ℕ) (w : Refusal) → Frame n ≡ Refused w → ⊥
+not-refused n w h = let z : _≡_ {A = ℕ} 0 1 = cc in omega arith
+
+pub written-says : (info out : List ℕ) (n : ℕ) → Frame n ≡ writtenOf info out → (n ≡ 2 * length info + 18) × (length info ≤ 2047)
+unfolding writtenOf
+written-says info out n h =
+    let a = past (ltb 2047 (length info)) _ _ _ (not-refused n _) h in
+    let b = past (ltb (length out) (2 * length info + 18)) _ _ _ (not-refused n _) (a .1) in
+    (cc (b .1), ltb-false 2047 (length info) (a .0))
+
+pub written-fits : (info out : List ℕ) → length info ≤ 2047 → 2 * length info + 18 ≤ length out → writtenOf info out ≡ Frame (2 * length info + 18)
+unfolding writtenOf
+written-fits info out short room = rw (le-ltb _ _ short, le-ltb _ _ room)

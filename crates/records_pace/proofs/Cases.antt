@@ -15,11 +15,11 @@ use Rattle.characters_pace.proofs.Firsts.{firsts-front}
 use Rattle.frames_pace.specs.declared.Frame.the-variants as frame
 use Rattle.frames_pace.specs.Frame.{infoOf, frameOf}
 use Rattle.rows_pace.specs.declared.Command.{Command}
-use Rattle.rows_pace.specs.Commands.{commandOf}
+use Rattle.rows_pace.specs.Commands.{commandOf, listed}
 use Rattle.records_pace.specs.declared.Answer.{Answer}
 use Rattle.records_pace.specs.declared.Answer.the-variants.{Hardware, Serial, Accepted, DeviceFailure, Refused}
 use Rattle.records_pace.specs.declared.Reply.{Reply}
-use Rattle.records_pace.specs.Reply.{bare, withText, hardwareOf, serialOf, acceptedOf, payloadReply, listed, answeredOf, replyOf}
+use Rattle.records_pace.specs.Reply.{bare, withText, hardwareOf, serialOf, acceptedOf, payloadReply, answeredOf, replyOf}
 
 -- ---- texts
 

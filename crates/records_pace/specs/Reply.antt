@@ -1,6 +1,6 @@
 -- What reading a PACE reply finds: the frame's refusals (1, 2, 3, 13, 4, 5, 6), then 6, 7, the device's failure, 8, 9, or the record (01, PACE; 01, Refusal numbers).
 -- Assumes nothing.
-use mathlib.Core.Bool.{Bool, true, false, _||_}
+use mathlib.Core.Bool.{_||_}
 use mathlib.Core.List.{List, _++_}
 use Prim.Native.Nat.{ℕ, _%_}
 use lib.Dec.{eqb}
@@ -14,7 +14,7 @@ use Rattle.frames_pace.specs.declared.Frame.the-variants as frame
 use Rattle.frames_pace.specs.Frame.{infoOf, frameOf}
 use Rattle.rows_pace.specs.declared.Command.{Command}
 use Rattle.rows_pace.specs.declared.Command.the-variants as command
-use Rattle.rows_pace.specs.Commands.{commandOf}
+use Rattle.rows_pace.specs.Commands.{commandOf, listed}
 use Rattle.settings_pace.specs.declared.Found.{Found}
 use Rattle.settings_pace.specs.declared.Found.the-variants as setting
 use Rattle.settings_pace.specs.Reading as settings
@@ -109,15 +109,6 @@ payloadReply a command.Serial d = serialOf d
 payloadReply a (command.Reads s) d = ofSetting (settings.replyOf s d)
 payloadReply a (command.Writes s) d = acceptedOf d
 payloadReply a command.Unlisted d = bare (Refused (refusedWith request))
-
-abbrev pub listed : Command → Bool
-listed command.Analog = true
-listed command.Warnings = true
-listed command.Hardware = true
-listed command.Serial = true
-listed (command.Reads s) = true
-listed (command.Writes s) = true
-listed command.Unlisted = false
 
 -- ---- the reply
 

@@ -10,6 +10,7 @@ use rows_pace::Command;
 use rows_pace::Setting;
 use rows_pace::Values;
 use rows_pace::command_of;
+use rows_pace::is_listed;
 use settings_pace::Found;
 use settings_pace::read_setting;
 use warnings_pace::Warnings;
@@ -17,7 +18,7 @@ use warnings_pace::read_warnings;
 ghost use mathlib.Core.Path.{_≡_};
 ghost use Prim.Native.Nat.{_≤_};
 ghost use Rattle.characters_pace.specs.Characters.{bytesIn};
-ghost use Rattle.records_pace.specs.Reply.{bare, listed, ofAnalog, ofWarnings, ofSetting, withText, hardwareOf, serialOf, acceptedOf, payloadReply, answeredOf, replyOf};
+ghost use Rattle.records_pace.specs.Reply.{bare, ofAnalog, ofWarnings, ofSetting, withText, hardwareOf, serialOf, acceptedOf, payloadReply, answeredOf, replyOf};
 
 pub enum Answer {
     // 42: the cells' millivolts and the temperatures stand in the reply's rows.
@@ -82,20 +83,6 @@ fn answered(address: u8, command: Command, code: u8, info: &[u8]) -> Reply
         return plain(Answer::Refused(refuse(refusals::SHAPE)));
     }
     payload(address, command, info)
-}
-
-fn is_listed(command: Command) -> bool
-    ensures { λ r. ⌜ r ≡ listed command ⌝ }
-{
-    match command {
-        Command::Analog => true,
-        Command::Warnings => true,
-        Command::Hardware => true,
-        Command::Serial => true,
-        Command::Reads(_) => true,
-        Command::Writes(_) => true,
-        Command::Unlisted => false,
-    }
 }
 
 // The record that the command calls for.

@@ -11,10 +11,11 @@ use lib.ListN.{length, getD, take, drop, set, replicate, length-append}
 use Rattle.laws.proofs.Filling.{one-more, part-more, front-taken}
 use Rattle.characters_pace.specs.Characters.{allOf}
 use Rattle.characters_pace.proofs.Halves.{halves-length}
+use Rattle.rows_pace.specs.declared.Info.{Info}
 use Rattle.rows_pace.specs.declared.Row.{Row}
 use Rattle.rows_pace.specs.declared.Values.{Values}
 use Rattle.rows_pace.specs.Rows.{rowOf, settingOf, amountsOf, delayOf, inSteps, allowed, allowedOf}
-use Rattle.rows_pace.specs.Info.{pairsOf, payload, infoOf}
+use Rattle.rows_pace.specs.Info.{pairsOf, payload, infoOf, infoRecord}
 use Rattle.rows_pace.proofs.Rows.{few, steps, amounts-count}
 
 -- ---- may they be written?
@@ -62,7 +63,9 @@ module _ (v : Values) (row : Row) (r : row ≡ rowOf (settingOf v)) where
 
   -- lead byte, amounts and delay stored one after another
   pub info-is : (a ys : List ℕ) (d : ℕ) → a ≡ amountsOf v ++ drop (length (amountsOf v)) (replicate 3 0) → ys ≡ pairsOf (take (row .amounts - 0) a) → d ≡ delayOf v
-      → (2 * row .amounts + 2 ≡ length (infoOf v)) × (set (putMid 1 (2 * row .amounts + 1 - 1) (set (replicate 8 0) 0 (row .lead)) ys) (2 * row .amounts + 1) d ≡ infoOf v ++ drop (length (infoOf v)) (replicate 8 0))
+      → _≡_ {A = Info}
+      (record { command = row .writes; bytes = set (putMid 1 (2 * row .amounts + 1 - 1) (set (replicate 8 0) 0 (row .lead)) ys) (2 * row .amounts + 1) d; len = 2 * row .amounts + 2 })
+      (infoRecord v)
   unfolding payload
   info-is a ys d e y g =
       let zeros : List ℕ = replicate 8 0 in
@@ -72,11 +75,12 @@ module _ (v : Values) (row : Row) (r : row ≡ rowOf (settingOf v)) where
       let size : length ys ≡ 2 * n = ap length pairs ∙ omega (arith, halves-length (λ n. n / 256 % 256) (λ n. n % 256) (amountsOf v), counted) in
       let at : 1 + (2 * n + 1 - 1) ≡ 2 * n + 1 = omega arith in
       let past : 2 * n + 1 + 1 ≡ length (infoOf v) = omega (arith, info-length) in
-      let lead : row .lead ≡ rowOf (settingOf v) .lead = ap (λ (q : Row). q .lead) r in (
-        sym info-length,
-        ap (λ (l : List ℕ). set (putMid 1 (2 * n + 1 - 1) l ys) (2 * n + 1) d) (one-more [] zeros 0 (row .lead) 0 refl (lit< tt))
-            ∙ ap (λ (l : List ℕ). set l (2 * n + 1) d) (part-more (row .lead ∷ []) zeros 1 (2 * n + 1 - 1) ys refl ∙ ap (λ (k : ℕ). (row .lead ∷ ys) ++ drop k zeros) at)
-            ∙ one-more (row .lead ∷ ys) zeros (2 * n + 1) d 0 (omega arith) (omega arith)
-            ∙ ap₂ (λ (k : ℕ) (l : List ℕ). l ++ drop k zeros) past
-            (ap₂ (λ (q : ℕ) (l : List ℕ). q ∷ l) lead (ap₂ (λ (l : List ℕ) (q : ℕ). l ++ q ∷ []) pairs g)),
-      )
+      let lead : row .lead ≡ rowOf (settingOf v) .lead = ap (λ (q : Row). q .lead) r in
+      let code : row .writes ≡ rowOf (settingOf v) .writes = ap (λ (q : Row). q .writes) r in
+      let bytes : set (putMid 1 (2 * n + 1 - 1) (set zeros 0 (row .lead)) ys) (2 * n + 1) d ≡ infoOf v ++ drop (length (infoOf v)) zeros =
+      ap (λ (l : List ℕ). set (putMid 1 (2 * n + 1 - 1) l ys) (2 * n + 1) d) (one-more [] zeros 0 (row .lead) 0 refl (lit< tt))
+      ∙ ap (λ (l : List ℕ). set l (2 * n + 1) d) (part-more (row .lead ∷ []) zeros 1 (2 * n + 1 - 1) ys refl ∙ ap (λ (k : ℕ). (row .lead ∷ ys) ++ drop k zeros) at)
+      ∙ one-more (row .lead ∷ ys) zeros (2 * n + 1) d 0 (omega arith) (omega arith)
+      ∙ ap₂ (λ (k : ℕ) (l : List ℕ). l ++ drop k zeros) past
+      (ap₂ (λ (q : ℕ) (l : List ℕ). q ∷ l) lead (ap₂ (λ (l : List ℕ) (q : ℕ). l ++ q ∷ []) pairs g)) in
+      rw (bytes, code, sym info-length)

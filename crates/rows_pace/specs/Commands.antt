@@ -1,5 +1,6 @@
 -- The commands that are listed (01, PACE, Requests): four of their own, and two for each setting.
 -- Assumes nothing.
+use mathlib.Core.Bool.{Bool, true, false}
 use mathlib.Core.List.{List, [], _∷_}
 use Prim.Native.Nat.{ℕ}
 use lib.Dec.{eqb}
@@ -21,3 +22,12 @@ commandOf c =
     (pick (eqb c 0xC1) Hardware
     (pick (eqb c 0xC2) Serial
     (bySetting settings c))))
+
+abbrev pub listed : Command → Bool
+listed Analog = true
+listed Warnings = true
+listed Hardware = true
+listed Serial = true
+listed (Reads s) = true
+listed (Writes s) = true
+listed Unlisted = false

@@ -2,7 +2,9 @@
 -- Assumes nothing.
 use mathlib.Core.List.{List, [], _∷_, _++_}
 use Prim.Native.Nat.{ℕ, _/_, _%_}
+use lib.ListN.{length, drop, replicate}
 use Rattle.characters_pace.specs.Characters.{halves}
+use Rattle.rows_pace.specs.declared.Info.{Info}
 use Rattle.rows_pace.specs.declared.Row.{Row}
 use Rattle.rows_pace.specs.declared.Values.{Values}
 use Rattle.rows_pace.specs.Rows.{rowOf, settingOf, amountsOf, delayOf}
@@ -16,3 +18,7 @@ payload row amounts delay = row .lead ∷ (pairsOf amounts ++ delay ∷ [])
 
 abbrev pub infoOf : Values → List ℕ
 infoOf v = payload (rowOf (settingOf v)) (amountsOf v) (delayOf v)
+
+-- the same beside its command, in an array with zeros behind
+abbrev pub infoRecord : Values → Info
+infoRecord v = record { command = rowOf (settingOf v) .writes; bytes = infoOf v ++ drop (length (infoOf v)) (replicate 8 0); len = length (infoOf v) }

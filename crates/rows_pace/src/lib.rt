@@ -6,9 +6,9 @@ ghost use mathlib.Core.List.{_++_};
 ghost use Prim.Native.Nat.{_*_, _<_};
 ghost use lib.ListN.{length, drop, replicate};
 ghost use Rattle.characters_pace.specs.Characters.{allOf};
-ghost use Rattle.rows_pace.specs.Commands.{commandOf};
+ghost use Rattle.rows_pace.specs.Commands.{commandOf, listed};
 ghost use Rattle.rows_pace.specs.Rows.{rowOf, settingOf, amountsOf, delayOf, valuesOf, inSteps, allowedOf};
-ghost use Rattle.rows_pace.specs.Info.{pairsOf, infoOf};
+ghost use Rattle.rows_pace.specs.Info.{pairsOf, infoRecord};
 
 // A setting's row.
 pub enum Setting {
@@ -91,6 +91,21 @@ pub fn command_of(code: u8) -> Command
         0xDB => Command::Reads(Setting::Discharge),
         0xDA => Command::Writes(Setting::Discharge),
         _ => Command::Unlisted,
+    }
+}
+
+// Whether a command is one of those that are listed.
+pub fn is_listed(command: Command) -> bool
+    ensures { λ r. ⌜ r ≡ listed command ⌝ }
+{
+    match command {
+        Command::Analog => true,
+        Command::Warnings => true,
+        Command::Hardware => true,
+        Command::Serial => true,
+        Command::Reads(_) => true,
+        Command::Writes(_) => true,
+        Command::Unlisted => false,
     }
 }
 
@@ -208,15 +223,16 @@ fn is_within(low: u16, high: u16, step: u16, n: u16) -> bool
     (n - low) % step == 0
 }
 
-// The bytes of INFO, as many as `len` says.
+// The command that writes a setting, and the bytes of its INFO, as many as `len` says.
 pub struct Info {
+    pub command: u8,
     pub bytes: [u8; 8],
     pub len: usize,
 }
 
-// The INFO of the request that writes these values.
+// The request that writes these values.
 pub fn info_of(v: Values) -> Info
-    ensures { λ r. ⌜ (r .len ≡ length (infoOf v)) × (r .bytes ≡ infoOf v ++ drop (length (infoOf v)) (replicate 8 0)) ⌝ }
+    ensures { λ r. ⌜ r ≡ infoRecord v ⌝ }
 {
     let p = parts_of(v);
     let setting = p.setting;
@@ -228,6 +244,7 @@ pub fn info_of(v: Values) -> Info
     put_words(&amounts[0..n], &mut bytes[1..2 * n + 1]);
     bytes[2 * n + 1] = p.delay;
     Info {
+        command: row.writes,
         bytes,
         len: 2 * n + 2,
     }

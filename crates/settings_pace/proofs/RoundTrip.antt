@@ -25,7 +25,7 @@ use Rattle.settings_pace.specs.declared.Found.the-variants.{Set, Refused
 use Rattle.rows_pace.specs.Rows.{rowOf, settingOf, amountsOf, delayOf, valuesOf, inSteps, allowed, allowedOf}
 use Rattle.rows_pace.specs.Info.{pairsOf, payload, infoOf}
 use Rattle.settings_pace.specs.Reading.{shaped, wordsIn, delayIn, requestOf}
-use Rattle.rows_pace.proofs.Rows.{amounts-count, values-again, setting-again, delay-again, amounts-again}
+use Rattle.rows_pace.proofs.Rows.{few, amounts-count, values-again, setting-again, delay-again, amounts-again}
 
 -- ---- two bytes at a time
 
@@ -118,6 +118,12 @@ payload-again row (x ∷ s) b e =
     (firsts-same (λ i. wordAt (x ∷ s) (1 + 2 * i)) (λ i. wordAt s (2 * i)) k (λ i h. behind x s i)) last
     ∙ ap₂ (λ (n : ℕ) (l : List ℕ). n ∷ l) (sym (f .1)) (pairs-back k s (b .1) (omega (arith, f .0)))
 
+-- what is written is of bytes
+pairs-bytes : (a : List ℕ) (delay : ℕ) → delay < 256 → Bytes (pairsOf a ++ delay ∷ [])
+unfolding halves Bytes
+pairs-bytes [] delay h = (h, tt)
+pairs-bytes (x ∷ a) delay h = (omega arith, (omega arith, pairs-bytes a delay h))
+
 -- ---- of every setting
 
 -- amounts and delays that may be written fit two bytes and one
@@ -125,6 +131,11 @@ highs : (s : Setting) → (rowOf s .high < 65536) × (rowOf s .«delay_high» < 
 unfolding rowOf
 highs Overvoltage = (lit< tt, lit< tt)
 highs Discharge = (lit< tt, lit< tt)
+
+leads : (s : Setting) → rowOf s .lead < 256
+unfolding rowOf
+leads Overvoltage = lit< tt
+leads Discharge = lit< tt
 
 below : (low high step n : ℕ) → inSteps low high step n ≡ true → n ≤ high
 below low high step n e = leb-true n high (both (leb n high) (eqb ((n - low) % step) 0) (both (leb low n) (leb n high && eqb ((n - low) % step) 0) e .1) .0)
@@ -146,6 +157,17 @@ allowed-fit v e =
       all-fit (row .low) (row .high) (row .step) (amountsOf v) (h .0) (f .0),
       omega (arith, h .1, below (row .«delay_low») (row .«delay_high») (row .«delay_step») (delayOf v) (f .1)),
     )
+
+pub info-bytes : (v : Values) → allowedOf v ≡ true → Bytes (infoOf v)
+unfolding payload Bytes
+info-bytes v e = (leads (settingOf v), pairs-bytes (amountsOf v) (delayOf v) (allowed-fit v e .1))
+
+-- INFO is short enough for LENGTH to count
+pub info-short : (v : Values) → length (infoOf v) ≤ 2047
+unfolding payload
+info-short v =
+    let a = length-append (pairsOf (amountsOf v)) (delayOf v ∷ []) in
+    omega (arith, halves-length (λ x. x / 256 % 256) (λ x. x % 256) (amountsOf v), amounts-count v, few (settingOf v))
 
 -- values that may be written are read back
 pub values-read-back : (v : Values) → allowedOf v ≡ true → Set v ≡ requestOf (settingOf v) (infoOf v)
