@@ -3,6 +3,7 @@
 mod check_lines;
 mod pf_lines;
 mod text;
+mod tz_lines;
 mod words;
 
 ghost use Prim.Native.Nat.{_<_};
@@ -147,6 +148,9 @@ fn answer(line: &[u8], bytes: &mut [u8], out: &mut [u8], at: usize) -> usize {
     }
     if check::same(first, b"pf") {
         return pf_lines::answer(line, bytes, out, at);
+    }
+    if check::same(first, b"tz") {
+        return tz_lines::answer(line, bytes, out, at);
     }
     text::put_line(out, at, b"? unknown word")
 }

@@ -310,16 +310,9 @@ fn write_into(q: Request, places: usize, frame: &mut [u8], out: &mut [u8], at: u
     }
     let answer = requests_pathfinder::write_request(q, &mut frame[0..places]);
     match answer {
-        Written::Frame(n) => put_frame(out, at, frame, n),
+        Written::Frame(n) => text::put_frame(out, at, frame, n),
         Written::Refused(r) => text::put_refused(out, at, r),
     }
-}
-
-fn put_frame(out: &mut [u8], at: usize, frame: &[u8], n: usize) -> usize {
-    if frame.len() < n {
-        return at;
-    }
-    text::put_named_bytes(out, at, b"ok frame ", &frame[0..n])
 }
 
 fn find(line: &[u8], bytes: &mut [u8], out: &mut [u8], at: usize) -> usize {

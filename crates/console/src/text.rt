@@ -88,6 +88,14 @@ pub fn put_named_bytes(out: &mut [u8], at: usize, name: &[u8], s: &[u8]) -> usiz
     put(out, end, b'\n')
 }
 
+// A line of the frame that stands at the front of a room.
+pub fn put_frame(out: &mut [u8], at: usize, room: &[u8], n: usize) -> usize {
+    if room.len() < n {
+        return at;
+    }
+    put_named_bytes(out, at, b"ok frame ", &room[0..n])
+}
+
 // A number in decimal.
 pub fn put_number(out: &mut [u8], at: usize, n: u64) -> usize {
     let mut text = [0u8; 20];
@@ -143,11 +151,15 @@ pub fn at_most(n: u64, most: usize) -> usize
     if n < most as u64 { n as usize } else { most }
 }
 
-// A signed number of 32 or of 16 bits in 64.
+// A signed number of 32, of 16 or of 8 bits in 64.
 pub fn from_i32(v: i32) -> i64 {
     v as i64
 }
 
 pub fn from_i16(v: i16) -> i64 {
+    v as i64
+}
+
+pub fn from_i8(v: i8) -> i64 {
     v as i64
 }

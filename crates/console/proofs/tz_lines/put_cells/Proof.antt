@@ -1,0 +1,81 @@
+-- `console::tz_lines::put_cells` is safe and ends. The loop keeps its place within the list, and the room its length.
+-- Assumes nothing.
+use mathlib.Core.Path.{_≡_}
+use Prim.Native.Nat.{_≤_, _-_}
+use borrow.Author.Needs.{needs}
+use lib.ListN.{length}
+use Rattle.console.proofs.tz_lines.put_cells.Statement.{statement}
+use Rattle.console.proofs.tz_lines.put_cells.Tie as tie
+
+abbrev Inv-loop : tie.InvT-loop
+Inv-loop out₀ from n cells name at₀ i₀ out at i = (i ≤ 32) × (length cells ≡ 32) × (length out ≡ length out₀)
+
+abbrev μ-loop : tie.MeasureT-loop
+μ-loop out₀ from n cells name at₀ i₀ out at i = 32 - i
+
+slice-aggregate-put-all : tie.Need-slice-aggregate-put-all Inv-loop μ-loop
+slice-aggregate-put-all c = search needs
+
+put-all-requires : tie.Need-put-all-requires Inv-loop μ-loop
+put-all-requires c κs = search needs
+
+put-one-requires : tie.Need-put-one-requires Inv-loop μ-loop
+put-one-requires c κs = search needs
+
+loop-holds : tie.Need-loop-holds Inv-loop μ-loop
+loop-holds c = search needs
+
+same-length : tie.Need-same-length Inv-loop μ-loop
+same-length c = search needs
+
+returns : tie.Need-returns Inv-loop μ-loop
+returns c = search needs
+
+mul-from-u16 : tie.Need-mul-from-u16 Inv-loop μ-loop
+mul-from-u16 c = search needs
+
+array-read-from-u16 : tie.Need-array-read-from-u16 Inv-loop μ-loop
+array-read-from-u16 c = search needs
+
+from-u16-requires : tie.Need-from-u16-requires Inv-loop μ-loop
+from-u16-requires c κs = search needs
+
+put-one-requires-2 : tie.Need-put-one-requires-2 Inv-loop μ-loop
+put-one-requires-2 c κs = search needs
+
+add-i : tie.Need-add-i Inv-loop μ-loop
+add-i c = search needs
+
+loop-less : tie.Need-loop-less Inv-loop μ-loop
+loop-less c = search needs
+
+loop-again : tie.Need-loop-again Inv-loop μ-loop
+loop-again c = search needs
+
+same-length-2 : tie.Need-same-length-2 Inv-loop μ-loop
+same-length-2 c = search needs
+
+returns-2 : tie.Need-returns-2 Inv-loop μ-loop
+returns-2 c = search needs
+
+pub put-cells-spec : {M : Type 1} → statement M
+put-cells-spec =
+    tie.close
+    (tie.spec
+    Inv-loop
+    μ-loop
+    slice-aggregate-put-all
+    put-all-requires
+    put-one-requires
+    loop-holds
+    same-length
+    returns
+    mul-from-u16
+    array-read-from-u16
+    from-u16-requires
+    put-one-requires-2
+    add-i
+    loop-less
+    loop-again
+    same-length-2
+    returns-2)
