@@ -6,16 +6,85 @@ mod ours;
 mod plain;
 
 use measure::{bytes, compare};
+use std::cell::RefCell;
+use std::hint::black_box;
 
 fn main() {
+    checksums();
+    pathfinder();
+}
+
+fn checksums() {
     for size in [8, 256, 65_536] {
         let input = bytes(size, 7);
         assert_eq!(ours::crc16(&input), plain::crc16(&input));
         compare(
             &format!("crc16 of {size} bytes"),
             size,
-            || plain::crc16(std::hint::black_box(&input)),
-            || ours::crc16(std::hint::black_box(&input)),
+            || plain::crc16(black_box(&input)),
+            || ours::crc16(black_box(&input)),
         );
     }
+}
+
+fn pathfinder() {
+    let reply = framed(0x02, &bytes(200, 3));
+    let (mut one, mut other, mut name) = ([0i32; 50], [0i32; 50], [0u8; 1]);
+    assert_eq!(plain::pf_read(0x02, &reply, &mut one), Some(50));
+    assert_eq!(ours::pf_read(0x02, &reply, &mut other, &mut name), (1 << 32) + 50);
+    assert_eq!(one, other);
+    let (row, row2, name) = (RefCell::new(one), RefCell::new(other), RefCell::new(name));
+    compare(
+        "Pathfinder reply 02 decoded",
+        reply.len(),
+        || plain::pf_read(0x02, black_box(&reply), &mut *row.borrow_mut()),
+        || {
+            ours::pf_read(
+                0x02,
+                black_box(&reply),
+                &mut *row2.borrow_mut(),
+                &mut *name.borrow_mut(),
+            )
+        },
+    );
+
+    let (frame, frame2) = (RefCell::new([0u8; 16]), RefCell::new([0u8; 16]));
+    assert_eq!(plain::pf_write(3, 56, &mut *frame.borrow_mut()), Some(11));
+    assert_eq!(ours::pf_write(3, 56, &mut *frame2.borrow_mut()), (1 << 32) + 11);
+    assert_eq!(frame, frame2);
+    compare(
+        "Pathfinder request written",
+        11,
+        || plain::pf_write(black_box(3), black_box(56), &mut *frame.borrow_mut()),
+        || ours::pf_write(black_box(3), black_box(56), &mut *frame2.borrow_mut()),
+    );
+
+    let text: Vec<u8> = bytes(65_536, 11).iter().map(|b| 32 + b % 95).collect();
+    let log = [&text[reply.len()..], &reply].concat();
+    assert_eq!(plain::pf_find(&log), ours::pf_find(&log));
+    compare(
+        "Pathfinder search, 64 KiB of log text with one frame at its end",
+        log.len(),
+        || plain::pf_find(black_box(&log)),
+        || ours::pf_find(black_box(&log)),
+    );
+
+    // The longest look at each place: a start mark, the longest length and, at every such end, an end mark.
+    let marks: Vec<u8> = (0..65_536).map(|i| if i % 2 == 0 { 0xFE } else { 0xFD }).collect();
+    let starts = vec![0xFE; 65_536];
+    for (name, input) in [("all FE", starts), ("FE and FD by turns", marks)] {
+        assert_eq!(plain::pf_find(&input), ours::pf_find(&input));
+        compare(
+            &format!("Pathfinder search, 64 KiB of {name}"),
+            input.len(),
+            || plain::pf_find(black_box(&input)),
+            || ours::pf_find(black_box(&input)),
+        );
+    }
+}
+
+/// The frame with this opcode and these data.
+fn framed(opcode: u8, data: &[u8]) -> Vec<u8> {
+    let covered = [&[data.len() as u8 + 1, opcode], data].concat();
+    [&[0xFE], &covered[..], &plain::crc16(&covered).to_be_bytes(), &[0xFD]].concat()
 }

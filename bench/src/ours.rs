@@ -1,11 +1,45 @@
-//! The library's calls, over `libexports.a`. A byte slice passes as a pointer and a length.
+//! The library's calls, over `libexports.a`. A slice passes as a pointer and a length.
 
 #[link(name = "exports", kind = "static")]
 extern "C" {
     fn tracksaffron_crc16(s: *const u8, len: usize) -> u16;
+    fn tracksaffron_pf_read(
+        asked: u8,
+        s: *const u8,
+        len: usize,
+        row: *mut i32,
+        words: usize,
+        name: *mut u8,
+        bytes: usize,
+    ) -> u64;
+    fn tracksaffron_pf_write(register: u8, value: i32, out: *mut u8, room: usize) -> u64;
+    fn tracksaffron_pf_find(s: *const u8, len: usize) -> usize;
 }
 
+// SAFETY, of each call here: it takes any slices, reads or writes them within their lengths only, and keeps nothing of them.
+
 pub fn crc16(s: &[u8]) -> u16 {
-    // SAFETY: the call takes any slice, reads it only, and keeps nothing of it.
     unsafe { tracksaffron_crc16(s.as_ptr(), s.len()) }
+}
+
+pub fn pf_read(asked: u8, s: &[u8], row: &mut [i32], name: &mut [u8]) -> u64 {
+    unsafe {
+        tracksaffron_pf_read(
+            asked,
+            s.as_ptr(),
+            s.len(),
+            row.as_mut_ptr(),
+            row.len(),
+            name.as_mut_ptr(),
+            name.len(),
+        )
+    }
+}
+
+pub fn pf_write(register: u8, value: i32, out: &mut [u8]) -> u64 {
+    unsafe { tracksaffron_pf_write(register, value, out.as_mut_ptr(), out.len()) }
+}
+
+pub fn pf_find(s: &[u8]) -> usize {
+    unsafe { tracksaffron_pf_find(s.as_ptr(), s.len()) }
 }

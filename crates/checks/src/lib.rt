@@ -91,6 +91,13 @@ pub fn closes65536(s: &[u8], check: u16) -> bool
     (sum_low(s) + check as u32) % 65536 == 0
 }
 
+// The low byte of the sum of the bytes, the check of the 58-byte monitor (001, byte 58).
+pub fn sum256(s: &[u8]) -> u8
+    ensures { λ r. ⌜ r ≡ total (now (s .entry)) % 256 ⌝ }
+{
+    (sum_low(s) % 256) as u8
+}
+
 // The low 16 bits of the sum of the bytes, which both moduli divide.
 fn sum_low(s: &[u8]) -> u32
     ensures { λ r. ⌜ r ≡ total (now (s .entry)) % 65536 ⌝ }

@@ -1,4 +1,5 @@
 pub mod Below
+pub mod Differences
 pub mod Entries
 pub mod Filling
 pub mod Fronts

@@ -1,0 +1,4 @@
+pub mod Carried
+pub mod Firsts
+pub mod Halves
+pub mod Tests

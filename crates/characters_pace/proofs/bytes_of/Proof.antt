@@ -1,0 +1,67 @@
+-- `characters_pace::bytes_of` meets its contract. The loop's invariant: the bytes passed stand in front of what was there.
+-- Assumes nothing.
+use Prim.Native.Nat.{ℕ, _+_, _-_, _≤_}
+use mathlib.Core.Path.{_≡_, refl}
+use mathlib.Core.List.{_++_}
+use native.Mathlib.Omega.{arith}
+use lib.ListN.{length, getD, drop, length-set}
+use Rattle.characters_pace.specs.Characters.{firsts, bytesIn}
+use Rattle.characters_pace.proofs.Firsts.{firsts-more, firsts-all}
+use Rattle.characters_pace.proofs.bytes_of.Statement.{statement}
+use Rattle.characters_pace.proofs.bytes_of.Tie as tie
+
+abbrev Inv-loop : tie.InvT-loop
+Inv-loop s at row₀ from i₀ row i = (i ≤ length row₀) × ((row ≡ firsts (λ k. getD (bytesIn s) (from + k) 0) i ++ drop i row₀) × (length row ≡ length row₀))
+
+abbrev μ-loop : tie.MeasureT-loop
+μ-loop s at row₀ from i₀ row i = length row₀ - i
+
+loop-holds : tie.Need-loop-holds Inv-loop μ-loop
+unfolding firsts
+loop-holds c = (omega arith, (refl, refl))
+
+add-byte-of : tie.Need-add-byte-of Inv-loop μ-loop
+add-byte-of c = omega arith
+
+byte-of-requires : tie.Need-byte-of-requires Inv-loop μ-loop
+byte-of-requires c κs = tt
+
+slice-write-row : tie.Need-slice-write-row Inv-loop μ-loop
+slice-write-row c = omega arith
+
+add-i : tie.Need-add-i Inv-loop μ-loop
+add-i c = omega arith
+
+loop-less : tie.Need-loop-less Inv-loop μ-loop
+loop-less c = omega arith
+
+loop-again : tie.Need-loop-again Inv-loop μ-loop
+loop-again c =
+    let l = c .before .before .loop in
+    let a = c .before .before .before .before .before .args in
+    (omega arith, (firsts-more (λ k. getD (bytesIn (a .s .now)) (a .at + k) 0) (a .row .now) (l .row) (l .i) _ (l .inv .1 .0) (omega arith) (c .byte-of .ensures), simp length-set (l .inv .1 .1)))
+
+same-length : tie.Need-same-length Inv-loop μ-loop
+same-length c = omega arith
+
+returns : tie.Need-returns Inv-loop μ-loop
+returns c =
+    let l = c .before .loop in
+    let a = c .before .before .before .before .args in
+    firsts-all (λ k. getD (bytesIn (a .s .now)) (a .at + k) 0) (a .row .now) (l .row) (l .i) (l .inv .1 .0) (omega arith)
+
+pub bytes-of-spec : {M : Type 1} → statement M
+bytes-of-spec =
+    tie.close
+    (tie.spec
+    Inv-loop
+    μ-loop
+    loop-holds
+    add-byte-of
+    byte-of-requires
+    slice-write-row
+    add-i
+    loop-less
+    loop-again
+    same-length
+    returns)

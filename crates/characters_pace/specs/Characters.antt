@@ -1,0 +1,67 @@
+-- Bytes and the characters that carry them, two hex digits a byte, the high one first (01, PACE).
+-- Assumes nothing.
+use mathlib.Core.Bool.{Bool, true, false, _&&_}
+use mathlib.Core.List.{List, [], _∷_, _++_}
+use Prim.Native.Nat.{ℕ, zero, suc, _+_, _*_, _/_, _%_}
+use lib.Dec.{ltb}
+use lib.ListN.{length, getD, drop}
+use Rattle.laws.specs.Choice.{pick}
+use Rattle.digits.specs.declared.Hex.{Hex}
+use Rattle.digits.specs.declared.Hex.the-variants.{Value, Other}
+use Rattle.digits.specs.Hexes.{digitOf, byteOf, charOf}
+use Rattle.numbers.specs.declared.Order.the-variants.{HighFirst}
+use Rattle.numbers.specs.Bytes.{numberOf}
+
+-- what a reading holds; 0 where there is none (no character of a whole frame is read so)
+abbrev pub valueIn : Hex → ℕ
+valueIn (Value v) = v
+valueIn Other = 0
+
+abbrev pub isValue : Hex → Bool
+isValue (Value v) = true
+isValue Other = false
+
+-- a test that holds of each
+unfoldable pub allOf : (ℕ → Bool) → List ℕ → Bool
+allOf p [] = true
+allOf p (x ∷ s) = p x && allOf p s
+
+-- every character is one of 0-9 and A-F
+abbrev pub allHex : List ℕ → Bool
+allHex s = allOf (λ c. isValue (digitOf c)) s
+
+-- the bytes of characters taken two by two; one left over is no byte
+unfoldable pub bytesIn : List ℕ → List ℕ
+bytesIn [] = []
+bytesIn (h ∷ []) = []
+bytesIn (h ∷ l ∷ s) = valueIn (byteOf h l) ∷ bytesIn s
+
+-- each number as its high and its low half
+unfoldable pub halves : (ℕ → ℕ) → (ℕ → ℕ) → List ℕ → List ℕ
+halves high low [] = []
+halves high low (x ∷ s) = high x ∷ low x ∷ halves high low s
+
+-- the characters of bytes
+abbrev pub hexed : List ℕ → List ℕ
+hexed s = halves (λ b. charOf (b / 16)) (λ b. charOf (b % 16)) s
+
+-- the number of the two bytes from place i on
+abbrev pub wordAt : List ℕ → ℕ → ℕ
+wordAt d i = numberOf HighFirst (getD d i 0 ∷ getD d (i + 1) 0 ∷ [])
+
+-- what f gives at 0, 1, .., k - 1
+unfoldable pub firsts : {A : Type 0} → (ℕ → A) → ℕ → List A
+firsts f zero = []
+firsts f (suc k) = firsts f k ++ (f k ∷ [])
+
+-- k bytes from a place on
+abbrev pub bytesAt : ℕ → ℕ → List ℕ → List ℕ
+bytesAt at k d = firsts (λ i. getD d (at + i) 0) k
+
+-- k numbers of two bytes from a place on
+abbrev pub wordsAt : ℕ → ℕ → List ℕ → List ℕ
+wordsAt at k d = firsts (λ i. wordAt d (at + 2 * i)) k
+
+-- the room after bytes were written to its front as characters; as it was where they do not fit
+abbrev pub hexAfter : List ℕ → List ℕ → List ℕ
+hexAfter bs out = pick (ltb (length out / 2) (length bs)) out (hexed bs ++ drop (2 * length bs) out)

@@ -1,0 +1,5 @@
+pub mod Cases
+pub mod Parts
+pub mod RoundTrip
+pub mod Whole
+pub mod Writing

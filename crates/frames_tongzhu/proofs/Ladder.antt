@@ -1,0 +1,119 @@
+-- The ways out of `frameOf`, each from the facts that the reader has there, and what a whole frame says of its bytes.
+-- Each way rewrites the ladder with its tests; the inversion goes down the ladder past each refusal. Assumes nothing.
+use mathlib.Core.Path.{_≡_, refl, sym, _∙_}
+use mathlib.Core.Bool.{Bool, true, false, _&&_}
+use mathlib.Core.List.{List}
+use Prim.Native.Nat.{ℕ, _+_, _-_, _<_, _≤_}
+use native.Mathlib.Omega.{arith}
+use borrow.Author.Tests.{lt-ltb, le-ltb, eq-eqb, ne-eqb, ltb-false, eqb-true, eqb-false}
+use lib.Dec.{ltb, eqb}
+use lib.ListN.{length, getD, take, drop}
+use lib.Seq.{getD-take, length-take-le}
+use Rattle.laws.proofs.Ladders.{past, into, both}
+use Rattle.refusals.specs.declared.Refusal.{Refusal}
+use Rattle.refusals.specs.Refused.{refusedWith, short, firstMark, lengths, checksum, address}
+use Rattle.checks.specs.Sums.{total, closes}
+use Rattle.frames_tongzhu.specs.declared.Frame.the-variants.{Whole, Refused}
+use Rattle.frames_tongzhu.specs.Reading.{checked, check, frameOf}
+
+-- what the reader hands to the sum is all bytes but the last
+pub part-checked : (s : List ℕ) → take (length s - 1 - 0) s ≡ checked s
+part-checked s = let e : length s - 1 - 0 ≡ length s - 1 = omega arith in rw e
+
+pub too-short : (s : List ℕ) → length s < 6 → Refused (refusedWith short) ≡ frameOf s
+unfolding frameOf
+too-short s h = simp (lt-ltb _ _ h)
+
+module _ (s : List ℕ) (long : 6 ≤ length s) where
+  pub wrong-mark : (getD s 0 0 ≡ 0x7F → ⊥) → Refused (refusedWith firstMark) ≡ frameOf s
+  unfolding frameOf
+  wrong-mark h = simp (le-ltb _ _ long, ne-eqb _ _ h)
+
+  module _ (mark : getD s 0 0 ≡ 0x7F) where
+    pub wrong-length : (length s ≡ getD s 3 0 → ⊥) → Refused (refusedWith lengths) ≡ frameOf s
+    unfolding frameOf
+    wrong-length h = simp (le-ltb _ _ long, eq-eqb _ _ mark, ne-eqb _ _ h)
+
+    module _ (declared : length s ≡ getD s 3 0) where
+      pub wrong-check : closes 256 (total (checked s)) (check s) ≡ false → Refused (refusedWith checksum) ≡ frameOf s
+      unfolding frameOf
+      wrong-check h = simp (le-ltb _ _ long, eq-eqb _ _ mark, eq-eqb _ _ declared, h)
+
+      module _ (closed : closes 256 (total (checked s)) (check s) ≡ true) where
+        pub wrong-address : (getD s 1 0 ≡ 0x10 → ⊥) → Refused (refusedWith address) ≡ frameOf s
+        unfolding frameOf
+        wrong-address h = simp (le-ltb _ _ long, eq-eqb _ _ mark, eq-eqb _ _ declared, closed, ne-eqb _ _ h)
+
+        module _ (home : getD s 1 0 ≡ 0x10) where
+          pub wrong-version : (getD s 2 0 ≡ 0x02 → ⊥) → Refused (refusedWith address) ≡ frameOf s
+          unfolding frameOf
+          wrong-version h =
+              simp (le-ltb _ _ long, eq-eqb _ _ mark, eq-eqb _ _ declared, closed, eq-eqb _ _ home, ne-eqb _ _ h)
+
+          pub whole : getD s 2 0 ≡ 0x02 → Whole (getD s 4 0) 5 (length s - 6) ≡ frameOf s
+          unfolding frameOf
+          whole h =
+              simp (le-ltb _ _ long, eq-eqb _ _ mark, eq-eqb _ _ declared, closed, eq-eqb _ _ home, eq-eqb _ _ h)
+
+-- ---- more bytes than a frame can have
+
+-- of an input over 255 bytes the first 256 are refused as the whole is: for the mark, or for a LEN that no byte can be
+pub long-input : (s : List ℕ) → 256 ≤ length s → getD s 3 0 < 256 → frameOf (take 256 s) ≡ frameOf s
+long-input s long byte = go (eqb (getD s 0 0) 0x7F) refl
+  where
+    front : (i : ℕ) → i < 256 → getD (take 256 s) i 0 ≡ getD s i 0
+    front i h = getD-take 256 s i 0 h
+
+    go : (b : Bool) → eqb (getD s 0 0) 0x7F ≡ b → frameOf (take 256 s) ≡ frameOf s
+    go true e =
+        let mark : getD s 0 0 ≡ 0x7F = eqb-true _ _ e in
+        let size = length-take-le 256 s long in
+        let len = front 3 (omega arith) in
+        sym (wrong-length (take 256 s) (omega arith) (front 0 (omega arith) ∙ mark) (λ h. omega arith))
+        ∙ wrong-length s (omega arith) mark (λ h. omega arith)
+    go false e =
+        let other = eqb-false (getD s 0 0) 0x7F e in
+        let size = length-take-le 256 s long in
+        sym (wrong-mark (take 256 s) (omega arith) (λ h. other (sym (front 0 (omega arith)) ∙ h))) ∙ wrong-mark s (omega arith) other
+
+-- ---- what a whole frame says of its bytes
+
+-- what a caller hands on as `&s[start..start + len]`
+pub payload-part : (st n : ℕ) (s : List ℕ) → take (st + n - st) (drop st s) ≡ take n (drop st s)
+payload-part st n s = let e : st + n - st ≡ n = omega arith in rw e
+
+pub not-refused : (f st n : ℕ) (r : Refusal) → Whole f st n ≡ Refused r → ⊥
+not-refused f st n r h = let z : _≡_ {A = ℕ} 0 1 = cc in omega arith
+
+pub record Parts (s : List ℕ) (f st n : ℕ) : Type 0 where
+  pub mark : getD s 0 0 ≡ 0x7F
+  pub home : getD s 1 0 ≡ 0x10
+  pub version : getD s 2 0 ≡ 0x02
+  pub declared : length s ≡ getD s 3 0
+  pub function : f ≡ getD s 4 0
+  pub start : st ≡ 5
+  pub count : n + 6 ≡ length s
+  pub closed : closes 256 (total (checked s)) (check s) ≡ true
+
+pub whole-parts : (s : List ℕ) (f st n : ℕ) → Whole f st n ≡ frameOf s → Parts s f st n
+unfolding frameOf
+whole-parts s f st n h =
+    let no = not-refused f st n in
+    let a = past (ltb (length s) 6) _ _ _ (no _) h in
+    let b = into (eqb (getD s 0 0) 0x7F) _ _ _ (no _) (a .1) in
+    let d = into (eqb (length s) (getD s 3 0)) _ _ _ (no _) (b .1) in
+    let e = into (closes 256 (total (checked s)) (check s)) _ _ _ (no _) (d .1) in
+    let w = into (eqb (getD s 1 0) 0x10 && eqb (getD s 2 0) 0x02) _ _ _ (no _) (e .1) in
+    let v = both (eqb (getD s 1 0) 0x10) (eqb (getD s 2 0) 0x02) (w .0) in
+    let long : 6 ≤ length s = ltb-false _ _ (a .0) in
+    let l : n ≡ length s - 6 = cc (w .1) in
+    record {
+      mark = eqb-true _ _ (b .0);
+      home = eqb-true _ _ (v .0);
+      version = eqb-true _ _ (v .1);
+      declared = eqb-true _ _ (d .0);
+      function = cc (w .1);
+      start = cc (w .1);
+      count = omega arith;
+      closed = e .0;
+    }

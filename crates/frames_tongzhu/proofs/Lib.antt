@@ -1,0 +1,4 @@
+pub mod Listed
+pub mod Ladder
+pub mod ReadBack
+pub mod Writers

@@ -1,0 +1,114 @@
+// Tongzhu frames (002, 4; 01, Tongzhu): 7F, 10, 02, LEN, FUN, MSG, check. LEN counts the whole frame, 6 to 255, and all bytes
+// with the check sum to 0 modulo 256. Also which functions there are.
+use checks::close256;
+use checks::closes256;
+use refusals::Refusal;
+use refusals::refuse;
+ghost use mathlib.Core.Path.{_≡_};
+ghost use Rattle.refusals.specs.Refused.{refusedWith};
+ghost use Rattle.frames_tongzhu.specs.Functions.{kindOf};
+ghost use Rattle.frames_tongzhu.specs.Reading.{frameOf};
+ghost use Rattle.frames_tongzhu.specs.Writing.{begun, sealed};
+
+// What a function is asked for.
+pub enum Kind {
+    // 11, 12, 14, 15: it reads something, and its request has no payload.
+    Reads,
+    // 30: it sets the time.
+    Sets,
+    // Any other.
+    Unlisted,
+}
+
+// The functions of document 01.
+pub fn kind_of(function: u8) -> Kind
+    ensures { λ r. ⌜ r ≡ kindOf function ⌝ }
+{
+    match function {
+        0x11 | 0x12 | 0x14 | 0x15 => Kind::Reads,
+        0x30 => Kind::Sets,
+        _ => Kind::Unlisted,
+    }
+}
+
+// What the input is.
+pub enum Frame {
+    // A whole frame: its function, where its payload starts and how many bytes the payload has.
+    Whole {
+        function: u8,
+        start: usize,
+        len: usize,
+    },
+    Refused(Refusal),
+}
+
+// Reads a frame, a reply's or a request's.
+pub fn read_frame(s: &[u8]) -> Frame
+    ensures { λ r. ⌜ r ≡ frameOf (now (s .entry)) ⌝ }
+{
+    if s.len() < 6 {
+        return refused(refusals::SHORT);
+    }
+    if s[0] != 0x7F {
+        return refused(refusals::FIRST_MARK);
+    }
+    let declared = wide(s[3]);
+    if s.len() != declared {
+        return refused(refusals::LENGTH);
+    }
+    let last = s.len() - 1;
+    if !closes256(&s[0..last], s[last]) {
+        return refused(refusals::CHECKSUM);
+    }
+    if s[1] != 0x10 {
+        return refused(refusals::ADDRESS);
+    }
+    if s[2] != 0x02 {
+        return refused(refusals::ADDRESS);
+    }
+    Frame::Whole {
+        function: s[4],
+        start: 5,
+        len: last - 5,
+    }
+}
+
+// Puts the five bytes before a payload of `len` bytes. Changes nothing where the frame has no room or cannot be so long.
+pub fn begin(function: u8, len: usize, out: &mut [u8])
+    ensures { λ _. ⌜ now (out .exit) ≡ begun function len (now (out .entry)) ⌝ }
+{
+    if len <= 249 {
+        if len + 6 <= out.len() {
+            out[0] = 0x7F;
+            out[1] = 0x10;
+            out[2] = 0x02;
+            out[3] = (len + 6) as u8;
+            out[4] = function;
+        }
+    }
+}
+
+// Puts the check after a payload of `len` bytes that was begun. Changes nothing where `begin` changes nothing.
+pub fn seal(len: usize, out: &mut [u8])
+    ensures { λ _. ⌜ now (out .exit) ≡ sealed len (now (out .entry)) ⌝ }
+{
+    if len <= 249 {
+        if len + 6 <= out.len() {
+            let check = close256(&out[0..len + 5]);
+            out[len + 5] = check;
+        }
+    }
+}
+
+fn refused(number: u8) -> Frame
+    ensures { λ r. ⌜ r ≡ Frame.Refused (refusedWith number) ⌝ }
+{
+    Frame::Refused(refuse(number))
+}
+
+// A byte as a count.
+fn wide(b: u8) -> usize
+    ensures { λ r. ⌜ r ≡ b ⌝ }
+{
+    b as usize
+}

@@ -1,0 +1,72 @@
+-- `monitor3_tongzhu::cells_of` meets its contract: the loop has placed the first i voltages, and 0 stands past them.
+-- Assumes nothing.
+use mathlib.Core.Path.{_≡_, ap, _∙_}
+use Prim.Native.Nat.{ℕ, _+_, _-_, _*_, _≤_}
+use native.Mathlib.Omega.{arith}
+use borrow.Author.Needs.{needs}
+use Rattle.monitor3_tongzhu.proofs.Places.{one-placed}
+use Rattle.monitor3_tongzhu.specs.Values.{numberAt, firsts, placesOf}
+use Rattle.monitor3_tongzhu.proofs.cells_of.Statement.{statement}
+use Rattle.monitor3_tongzhu.proofs.cells_of.Tie as tie
+
+abbrev Inv-loop : tie.InvT-loop
+Inv-loop q from n a₀ i₀ a i = (i ≤ n) × (a ≡ placesOf 32 0 (λ (k : ℕ). numberAt q (from + 2 * k)) i)
+
+abbrev μ-loop : tie.MeasureT-loop
+μ-loop q from n a₀ i₀ a i = n - i
+
+loop-holds : tie.Need-loop-holds Inv-loop μ-loop
+unfolding firsts
+loop-holds c = search needs
+
+mul-number-at : tie.Need-mul-number-at Inv-loop μ-loop
+mul-number-at c = search needs
+
+add-number-at : tie.Need-add-number-at Inv-loop μ-loop
+add-number-at c = search needs
+
+number-at-requires : tie.Need-number-at-requires Inv-loop μ-loop
+number-at-requires c κs = search needs
+
+mul-a : tie.Need-mul-a Inv-loop μ-loop
+mul-a c = search needs
+
+array-write-a : tie.Need-array-write-a Inv-loop μ-loop
+array-write-a c = search needs
+
+add-i : tie.Need-add-i Inv-loop μ-loop
+add-i c = search needs
+
+loop-less : tie.Need-loop-less Inv-loop μ-loop
+loop-less c = search needs
+
+loop-again : tie.Need-loop-again Inv-loop μ-loop
+loop-again c =
+    let a = c .before .before .before .before .args in
+    let l = c .before .before .loop in (
+      search needs,
+      one-placed (λ (k : ℕ). numberAt (a .q .now) (a .from + 2 * k)) 32 0 (l .a) (l .i) _ (l .inv .1) (omega arith) (c .number-at .ensures),
+    )
+
+returns : tie.Need-returns Inv-loop μ-loop
+returns c =
+    let a = c .before .before .before .args in
+    let e : c .before .loop .i ≡ a .n = omega arith in
+    c .before .loop .inv .1 ∙ ap (placesOf 32 0 (λ (k : ℕ). numberAt (a .q .now) (a .from + 2 * k))) e
+
+pub cells-of-spec : {M : Type 1} → statement M
+cells-of-spec =
+    tie.close
+    (tie.spec
+    Inv-loop
+    μ-loop
+    loop-holds
+    mul-number-at
+    add-number-at
+    number-at-requires
+    mul-a
+    array-write-a
+    add-i
+    loop-less
+    loop-again
+    returns)

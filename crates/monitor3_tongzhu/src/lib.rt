@@ -1,0 +1,262 @@
+// The fields of Tongzhu's function 12 (002, 6.1.3; 01, Tongzhu), wherever in a payload they begin: a reply to function 12 has them from
+// its payload's first byte on. No other place says how these fields lie.
+use numbers::Order;
+use numbers::number16;
+use numbers::signed8;
+use numbers::signed16;
+use refusals::Refusal;
+use refusals::refuse;
+ghost use mathlib.Core.Path.{_≡_};
+ghost use Prim.Native.Nat.{_+_, _*_, _<_, _≤_};
+ghost use lib.ListN.{length, getD};
+ghost use lib.IntN.{pos};
+ghost use Rattle.monitor3_tongzhu.specs.Values.{numberAt, temperatureAt, statusAt, placesOf};
+ghost use Rattle.monitor3_tongzhu.specs.Layout.{Shaped, shapeOf, monitor3Of, listsOf, noLists, wrongFields, fieldsOf, fieldsAt};
+
+// The battery status (6.1.3.1), byte by byte.
+pub struct Status {
+    pub first: u8,
+    pub second: u8,
+    pub third: u8,
+    pub fourth: u8,
+}
+
+// What function 12 tells (6.1.3), but for its lists.
+pub struct Monitor3 {
+    pub status: Status,
+    // In 0.1 A, charging positive.
+    pub current: i16,
+    // How many cells, cell sensors and MOSFET sensors there are.
+    pub cells: u8,
+    pub sensors: u8,
+    pub mosfets: u8,
+    pub cycles: u16,
+    // In 0.1 Ah.
+    pub remaining: u16,
+    pub capacity: u16,
+    pub switch: u8,
+}
+
+// The lists of function 12. Places past a count are 0.
+pub struct Lists {
+    // In mV.
+    pub cells: [u16; 32],
+    // A bit for each cell, the first cell's the lowest of the first byte.
+    pub balance: [u8; 4],
+    // In degrees Celsius.
+    pub sensors: [i8; 16],
+    pub mosfets: [i8; 16],
+}
+
+// What stands where the fields of function 12 should be.
+pub enum Found {
+    Read(Monitor3),
+    Refused(Refusal),
+}
+
+// The fields of function 12 with their lists; after a refusal the lists are 0.
+pub struct Fields {
+    pub found: Found,
+    pub lists: Lists,
+}
+
+// How many values each part of function 12 has, and how many bytes its balanced state has.
+struct Counts {
+    cells: usize,
+    flags: usize,
+    sensors: usize,
+    mosfets: usize,
+}
+
+enum Shape {
+    Counted(Counts),
+    Wrong,
+}
+
+// Reads the fields of function 12 that take all of a payload from the place `at` on.
+pub fn read_fields(p: &[u8], at: usize) -> Fields
+    ensures { λ r. ⌜ r ≡ fieldsAt (now (p .entry)) at ⌝ }
+{
+    if p.len() < at {
+        return misshapen();
+    }
+    fields_of(&p[at..])
+}
+
+fn misshapen() -> Fields
+    ensures { λ r. ⌜ r ≡ wrongFields ⌝ }
+{
+    let lists = no_lists();
+    Fields {
+        found: Found::Refused(refuse(refusals::SHAPE)),
+        lists,
+    }
+}
+
+// The fields of function 12 that are the whole of q.
+fn fields_of(q: &[u8]) -> Fields
+    ensures { λ r. ⌜ r ≡ fieldsOf (now (q .entry)) ⌝ }
+{
+    let shape = shape_of(q);
+    match shape {
+        Shape::Counted(k) => {
+            let lists = lists_of(q, k);
+            Fields {
+                found: Found::Read(monitor3_of(q, k)),
+                lists,
+            }
+        }
+        Shape::Wrong => misshapen(),
+    }
+}
+
+// Looks the counts up and tests them against their limits and the number of bytes.
+fn shape_of(q: &[u8]) -> Shape
+    ensures { λ r. ⌜ r ≡ shapeOf (now (q .entry)) ⌝ }
+{
+    let cells = count_at(q, 6);
+    let flags = (cells + 7) / 8;
+    let sensors = count_at(q, 7 + 2 * cells + flags);
+    let mosfets = count_at(q, 8 + 2 * cells + flags + sensors);
+    if cells < 1 {
+        return Shape::Wrong;
+    }
+    if 32 < cells {
+        return Shape::Wrong;
+    }
+    if 16 < sensors {
+        return Shape::Wrong;
+    }
+    if 16 < mosfets {
+        return Shape::Wrong;
+    }
+    if q.len() != 16 + 2 * cells + flags + sensors + mosfets {
+        return Shape::Wrong;
+    }
+    Shape::Counted(Counts {
+        cells,
+        flags,
+        sensors,
+        mosfets,
+    })
+}
+
+// The numbers of function 12.
+fn monitor3_of(q: &[u8], k: Counts) -> Monitor3
+    requires { ⌜ Shaped (length (now q)) k ⌝ }
+    ensures { λ r. ⌜ r ≡ monitor3Of (now (q .entry)) k ⌝ }
+{
+    let tail = 9 + 2 * k.cells + k.flags + k.sensors + k.mosfets;
+    Monitor3 {
+        status: status_at(q, 0),
+        current: signed16(number_at(q, 4)),
+        cells: k.cells as u8,
+        sensors: k.sensors as u8,
+        mosfets: k.mosfets as u8,
+        cycles: number_at(q, tail),
+        remaining: number_at(q, tail + 2),
+        capacity: number_at(q, tail + 4),
+        switch: q[tail + 6],
+    }
+}
+
+// The lists of function 12.
+fn lists_of(q: &[u8], k: Counts) -> Lists
+    requires { ⌜ Shaped (length (now q)) k ⌝ }
+    ensures { λ r. ⌜ r ≡ listsOf (now (q .entry)) k ⌝ }
+{
+    let cells = cells_of(q, 7, k.cells);
+    let balance = flags_of(q, 7 + 2 * k.cells, k.flags);
+    let sensors = temperatures_of(q, 8 + 2 * k.cells + k.flags, k.sensors);
+    let mosfets = temperatures_of(q, 9 + 2 * k.cells + k.flags + k.sensors, k.mosfets);
+    Lists {
+        cells,
+        balance,
+        sensors,
+        mosfets,
+    }
+}
+
+pub fn no_lists() -> Lists
+    ensures { λ r. ⌜ r ≡ noLists ⌝ }
+{
+    Lists {
+        cells: [0u16; 32],
+        balance: [0u8; 4],
+        sensors: [0i8; 16],
+        mosfets: [0i8; 16],
+    }
+}
+
+// n cell voltages from the place `from` on.
+fn cells_of(q: &[u8], from: usize, n: usize) -> [u16; 32]
+    requires { ⌜ (n ≤ 32) × (from + 2 * n ≤ length (now q)) ⌝ }
+    ensures { λ r. ⌜ r ≡ placesOf 32 0 (λ i. numberAt (now (q .entry)) (from + 2 * i)) n ⌝ }
+{
+    let mut a = [0u16; 32];
+    let mut i = 0;
+    while i < n {
+        a[i] = number_at(q, from + 2 * i);
+        i += 1;
+    }
+    a
+}
+
+// n bytes of the balanced state from the place `from` on.
+fn flags_of(q: &[u8], from: usize, n: usize) -> [u8; 4]
+    requires { ⌜ (n ≤ 4) × (from + n ≤ length (now q)) ⌝ }
+    ensures { λ r. ⌜ r ≡ placesOf 4 0 (λ i. getD (now (q .entry)) (from + i) 0) n ⌝ }
+{
+    let mut a = [0u8; 4];
+    let mut i = 0;
+    while i < n {
+        a[i] = q[from + i];
+        i += 1;
+    }
+    a
+}
+
+// n temperatures from the place `from` on.
+fn temperatures_of(q: &[u8], from: usize, n: usize) -> [i8; 16]
+    requires { ⌜ (n ≤ 16) × (from + n ≤ length (now q)) ⌝ }
+    ensures { λ r. ⌜ r ≡ placesOf 16 (pos 0) (λ i. temperatureAt (now (q .entry)) (from + i)) n ⌝ }
+{
+    let mut a = [0i8; 16];
+    let mut i = 0;
+    while i < n {
+        a[i] = signed8(q[from + i]);
+        i += 1;
+    }
+    a
+}
+
+// The battery status at the place i.
+fn status_at(p: &[u8], i: usize) -> Status
+    requires { ⌜ i + 3 < length (now p) ⌝ }
+    ensures { λ r. ⌜ r ≡ statusAt (now (p .entry)) i ⌝ }
+{
+    Status {
+        first: p[i],
+        second: p[i + 1],
+        third: p[i + 2],
+        fourth: p[i + 3],
+    }
+}
+
+// The number of two bytes at the place i.
+fn number_at(p: &[u8], i: usize) -> u16
+    requires { ⌜ i + 1 < length (now p) ⌝ }
+    ensures { λ r. ⌜ r ≡ numberAt (now (p .entry)) i ⌝ }
+{
+    number16(Order::LowFirst, p[i], p[i + 1])
+}
+
+// The byte at the place i, 0 past the end.
+fn count_at(q: &[u8], i: usize) -> usize
+    ensures { λ r. ⌜ (r ≡ getD (now (q .entry)) i 0) × (r < 256) ⌝ }
+{
+    if i < q.len() {
+        return q[i] as usize;
+    }
+    0
+}

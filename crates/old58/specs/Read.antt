@@ -1,0 +1,36 @@
+-- What reading 58 bytes finds: the refusals in the order 1, 4, 5, 9, or the record (01, Refusal numbers; 001, byte 58 and the sign bytes).
+-- Places are the document's byte numbers, counted from 1.
+-- Assumes nothing.
+use mathlib.Core.Bool.{Bool, _&&_, _||_}
+use mathlib.Core.List.{List}
+use Prim.Native.Nat.{ℕ, _%_}
+use lib.Dec.{ltb, leb, eqb}
+use lib.ListN.{length, take}
+use Rattle.laws.specs.Choice.{pick}
+use Rattle.checks.specs.Sums.{total}
+use Rattle.refusals.specs.Refused.{refusedWith, short, lengths, checksum, range}
+use Rattle.old58.specs.declared.Reading.{Reading}
+use Rattle.old58.specs.declared.Reading.the-variants.{Whole, Refused}
+use Rattle.old58.specs.Record.{byteAt, recordOf}
+
+-- +, - and X
+unfoldable pub signKnown : ℕ → Bool
+signKnown b = eqb b 0x2B || (eqb b 0x2D || eqb b 0x58)
+
+-- the three signs are known, the hour is at most 23 and the minute at most 59
+unfoldable pub ranged : List ℕ → Bool
+ranged s =
+    signKnown (byteAt s 4)
+    && (signKnown (byteAt s 7) && (signKnown (byteAt s 10) && (leb (byteAt s 48) 23 && leb (byteAt s 49) 59)))
+
+-- byte 58 is the low byte of the sum of the 57 before
+abbrev pub checked : List ℕ → Bool
+checked s = eqb (total (take 57 s) % 256) (byteAt s 58)
+
+unfoldable pub readingOf : List ℕ → Reading
+readingOf s =
+    pick (ltb (length s) 58) (Refused (refusedWith short))
+    (pick (ltb 58 (length s)) (Refused (refusedWith lengths))
+    (pick (checked s)
+    (pick (ranged s) (Whole (recordOf s)) (Refused (refusedWith range)))
+    (Refused (refusedWith checksum))))

@@ -1,0 +1,270 @@
+// The 58-byte monitor (001; 01, The 58-byte monitor): one record of 58 bytes without marks, numbers with the high byte first.
+// Places are the document's byte numbers, counted from 1, where a function takes one; indices count from 0.
+use checks::sum256;
+use numbers::Order;
+use numbers::number16;
+use numbers::number24;
+use refusals::Refusal;
+use refusals::refuse;
+ghost use mathlib.Core.Path.{_≡_};
+ghost use Prim.Native.Nat.{_+_, _≤_, _<_};
+ghost use lib.ListN.{length};
+ghost use Rattle.old58.specs.Record.{twoAt, threeAt, voltsAt, degreesAt, currentOf, currentAt, packOf, extremesOf, cellOf, energyOf, setupOf, recordOf};
+ghost use Rattle.old58.specs.Read.{signKnown, ranged, readingOf};
+
+// A current, or none where the monitor has no such sensor (sign X).
+pub enum Current {
+    Milliamps(i32),
+    Missing,
+}
+
+// Bytes 1 to 12.
+pub struct Pack {
+    pub total_mv: u32,
+    pub current_ma: Current,
+    pub current2_ma: Current,
+    pub current3_ma: Current,
+}
+
+// Bytes 13 to 24: the extremes, and in which cell each was met.
+pub struct Extremes {
+    pub lowest_mv: u32,
+    pub lowest_cell: u8,
+    pub highest_mv: u32,
+    pub highest_cell: u8,
+    pub coldest_c: i32,
+    pub coldest_cell: u8,
+    pub hottest_c: i32,
+    pub hottest_cell: u8,
+}
+
+// Bytes 25 to 31: one cell of so many, and the status bits.
+pub struct Cell {
+    pub cell: u8,
+    pub cells: u8,
+    pub cell_mv: u32,
+    pub cell_c: i32,
+    pub status: u8,
+}
+
+// Bytes 32 to 47.
+pub struct Energy {
+    pub collected_today_wh: u32,
+    pub stored_wh: u32,
+    pub consumed_today_wh: u32,
+    pub soc_percent: u8,
+    pub collected_kwh: u32,
+    pub consumed_kwh: u32,
+}
+
+// Bytes 48 to 57. The three voltage settings are counts, since step and example of 001 disagree.
+pub struct Setup {
+    pub hour: u8,
+    pub minute: u8,
+    pub capacity_100wh: u16,
+    pub vmin_count: u16,
+    pub vmax_count: u16,
+    pub vbypass_count: u16,
+}
+
+// What the monitor says, in the order of the bytes.
+pub struct Record {
+    pub pack: Pack,
+    pub extremes: Extremes,
+    pub cell: Cell,
+    pub energy: Energy,
+    pub setup: Setup,
+}
+
+pub enum Reading {
+    Whole(Record),
+    Refused(Refusal),
+}
+
+// The record in the bytes, or why there is none.
+pub fn read_record(s: &[u8]) -> Reading
+    ensures { λ r. ⌜ r ≡ readingOf (now (s .entry)) ⌝ }
+{
+    if s.len() < 58 {
+        return Reading::Refused(refuse(refusals::SHORT));
+    }
+    if 58 < s.len() {
+        return Reading::Refused(refuse(refusals::LENGTH));
+    }
+    if sum256(&s[0..57]) != s[57] {
+        return Reading::Refused(refuse(refusals::CHECKSUM));
+    }
+    if !in_range(s) {
+        return Reading::Refused(refuse(refusals::RANGE));
+    }
+    Reading::Whole(record_of(s))
+}
+
+// Whether the three signs and the time are among those that the document has.
+fn in_range(s: &[u8]) -> bool
+    requires { ⌜ 58 ≤ length (now s) ⌝ }
+    ensures { λ r. ⌜ r ≡ ranged (now (s .entry)) ⌝ }
+{
+    if !is_sign(s[3]) {
+        return false;
+    }
+    if !is_sign(s[6]) {
+        return false;
+    }
+    if !is_sign(s[9]) {
+        return false;
+    }
+    if 23 < s[47] {
+        return false;
+    }
+    s[48] <= 59
+}
+
+fn is_sign(b: u8) -> bool
+    ensures { λ r. ⌜ r ≡ signKnown b ⌝ }
+{
+    match b {
+        0x2B | 0x2D | 0x58 => true,
+        _ => false,
+    }
+}
+
+fn record_of(s: &[u8]) -> Record
+    requires { ⌜ 58 ≤ length (now s) ⌝ }
+    ensures { λ r. ⌜ r ≡ recordOf (now (s .entry)) ⌝ }
+{
+    Record {
+        pack: pack_of(s),
+        extremes: extremes_of(s),
+        cell: cell_of(s),
+        energy: energy_of(s),
+        setup: setup_of(s),
+    }
+}
+
+fn pack_of(s: &[u8]) -> Pack
+    requires { ⌜ 58 ≤ length (now s) ⌝ }
+    ensures { λ r. ⌜ r ≡ packOf (now (s .entry)) ⌝ }
+{
+    Pack {
+        total_mv: 5 * three_at(s, 1),
+        current_ma: current_at(s, 4),
+        current2_ma: current_at(s, 7),
+        current3_ma: current_at(s, 10),
+    }
+}
+
+fn extremes_of(s: &[u8]) -> Extremes
+    requires { ⌜ 58 ≤ length (now s) ⌝ }
+    ensures { λ r. ⌜ r ≡ extremesOf (now (s .entry)) ⌝ }
+{
+    Extremes {
+        lowest_mv: volts_at(s, 13),
+        lowest_cell: s[14],
+        highest_mv: volts_at(s, 16),
+        highest_cell: s[17],
+        coldest_c: degrees_at(s, 19),
+        coldest_cell: s[20],
+        hottest_c: degrees_at(s, 22),
+        hottest_cell: s[23],
+    }
+}
+
+fn cell_of(s: &[u8]) -> Cell
+    requires { ⌜ 58 ≤ length (now s) ⌝ }
+    ensures { λ r. ⌜ r ≡ cellOf (now (s .entry)) ⌝ }
+{
+    Cell {
+        cell: s[24],
+        cells: s[25],
+        cell_mv: volts_at(s, 27),
+        cell_c: degrees_at(s, 29),
+        status: s[30],
+    }
+}
+
+fn energy_of(s: &[u8]) -> Energy
+    requires { ⌜ 58 ≤ length (now s) ⌝ }
+    ensures { λ r. ⌜ r ≡ energyOf (now (s .entry)) ⌝ }
+{
+    Energy {
+        collected_today_wh: three_at(s, 32),
+        stored_wh: three_at(s, 35),
+        consumed_today_wh: three_at(s, 38),
+        soc_percent: s[40],
+        collected_kwh: three_at(s, 42),
+        consumed_kwh: three_at(s, 45),
+    }
+}
+
+fn setup_of(s: &[u8]) -> Setup
+    requires { ⌜ 58 ≤ length (now s) ⌝ }
+    ensures { λ r. ⌜ r ≡ setupOf (now (s .entry)) ⌝ }
+{
+    Setup {
+        hour: s[47],
+        minute: s[48],
+        capacity_100wh: two_at(s, 50),
+        vmin_count: two_at(s, 52),
+        vmax_count: two_at(s, 54),
+        vbypass_count: two_at(s, 56),
+    }
+}
+
+// The number of the two bytes from this one on.
+fn two_at(s: &[u8], byte: usize) -> u16
+    requires { ⌜ (1 ≤ byte) × (byte + 1 ≤ length (now s)) ⌝ }
+    ensures { λ r. ⌜ r ≡ twoAt (now (s .entry)) byte ⌝ }
+{
+    number16(Order::HighFirst, s[byte - 1], s[byte])
+}
+
+// The number of the three bytes from this one on.
+fn three_at(s: &[u8], byte: usize) -> u32
+    requires { ⌜ (1 ≤ byte) × (byte + 2 ≤ length (now s)) ⌝ }
+    ensures { λ r. ⌜ (r ≡ threeAt (now (s .entry)) byte) × (r < 16777216) ⌝ }
+{
+    number24(Order::HighFirst, s[byte - 1], s[byte], s[byte + 1])
+}
+
+// Two bytes of 5 mV a count.
+fn volts_at(s: &[u8], byte: usize) -> u32
+    requires { ⌜ (1 ≤ byte) × (byte + 1 ≤ length (now s)) ⌝ }
+    ensures { λ r. ⌜ r ≡ voltsAt (now (s .entry)) byte ⌝ }
+{
+    5 * (two_at(s, byte) as u32)
+}
+
+// Two bytes of degrees, 276 above Celsius.
+fn degrees_at(s: &[u8], byte: usize) -> i32
+    requires { ⌜ (1 ≤ byte) × (byte + 1 ≤ length (now s)) ⌝ }
+    ensures { λ r. ⌜ r ≡ degreesAt (now (s .entry)) byte ⌝ }
+{
+    two_at(s, byte) as i32 - 276
+}
+
+// A sign byte and the two bytes of 125 mA a count behind it.
+fn current_at(s: &[u8], byte: usize) -> Current
+    requires { ⌜ (1 ≤ byte) × (byte + 2 ≤ length (now s)) ⌝ }
+    ensures { λ r. ⌜ r ≡ currentAt (now (s .entry)) byte ⌝ }
+{
+    current_of(s[byte - 1], two_at(s, byte + 1))
+}
+
+fn current_of(sign: u8, count: u16) -> Current
+    ensures { λ r. ⌜ r ≡ currentOf sign count ⌝ }
+{
+    let amount = (125 * (count as u32)) as i32;
+    match sign {
+        0x2B => measured(amount),
+        0x2D => measured(-amount),
+        _ => Current::Missing,
+    }
+}
+
+// A current that was measured; 0 is one too.
+fn measured(ma: i32) -> Current
+    ensures { λ r. ⌜ r ≡ Current.Milliamps ma ⌝ }
+{
+    Current::Milliamps(ma)
+}

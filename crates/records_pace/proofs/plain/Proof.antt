@@ -1,0 +1,13 @@
+-- `records_pace::plain` meets its contract: the answer with zeros beside it.
+-- Assumes nothing.
+use mathlib.Core.Path.{refl}
+use Rattle.records_pace.specs.Reply.{bare}
+use Rattle.records_pace.proofs.plain.Statement.{statement}
+use Rattle.records_pace.proofs.plain.Tie as tie
+
+returns : tie.Need-returns
+unfolding bare
+returns c = refl
+
+pub plain-spec : {M : Type 1} → statement M
+plain-spec = tie.close (tie.spec returns)

@@ -1,0 +1,132 @@
+-- What reading a PACE reply finds: the frame's refusals (1, 2, 3, 13, 4, 5, 6), then 6, 7, the device's failure, 8, 9, or the record (01, PACE; 01, Refusal numbers).
+-- Assumes nothing.
+use mathlib.Core.Bool.{_||_}
+use mathlib.Core.List.{List, _++_}
+use Prim.Native.Nat.{ℕ, _%_}
+use lib.Dec.{eqb}
+use lib.IntN.{pos}
+use lib.ListN.{length, drop, replicate}
+use Rattle.laws.specs.Choice.{pick}
+use Rattle.refusals.specs.Refused.{refusedWith, address, request, shape}
+use Rattle.characters_pace.specs.Characters.{bytesIn, bytesAt}
+use Rattle.frames_pace.specs.declared.Frame.{Frame}
+use Rattle.frames_pace.specs.declared.Frame.the-variants as frame
+use Rattle.frames_pace.specs.Frame.{infoOf, frameOf}
+use Rattle.rows_pace.specs.declared.Command.{Command}
+use Rattle.rows_pace.specs.declared.Command.the-variants as command
+use Rattle.rows_pace.specs.Commands.{commandOf, listed}
+use Rattle.settings_pace.specs.declared.Found.{Found}
+use Rattle.settings_pace.specs.declared.Found.the-variants as setting
+use Rattle.settings_pace.specs.Reading as settings
+use Rattle.analog_pace.specs.declared.Found.{Found as AnalogFound}
+use Rattle.analog_pace.specs.declared.Found.the-variants as analog
+use Rattle.analog_pace.specs.declared.Reading.{Reading as AnalogReading}
+use Rattle.analog_pace.specs.Analog as analogs
+use Rattle.warnings_pace.specs.declared.Found.{Found as WarningsFound}
+use Rattle.warnings_pace.specs.declared.Found.the-variants as warnings
+use Rattle.warnings_pace.specs.declared.Reading.{Reading as WarningsReading}
+use Rattle.warnings_pace.specs.Warnings as status
+use Rattle.records_pace.specs.declared.Answer.{Answer}
+use Rattle.records_pace.specs.declared.Answer.the-variants.{Analog, Warnings, Hardware, Serial, Setting, Accepted, DeviceFailure, Refused}
+use Rattle.records_pace.specs.declared.Reply.{Reply}
+
+-- ---- answers with their rows
+
+-- an answer without rows
+unfoldable pub bare : Answer → Reply
+bare a =
+    record {
+      answer = a;
+      cells = replicate 16 0;
+      temperatures = replicate 8 (pos 0);
+      «cell_warnings» = replicate 16 0;
+      «temperature_warnings» = replicate 8 0;
+      text = replicate 40 0;
+    }
+
+abbrev pub analogAnswer : AnalogFound → Answer
+analogAnswer (analog.Analog a) = Analog a
+analogAnswer (analog.Refused w) = Refused w
+
+unfoldable pub ofAnalog : AnalogReading → Reply
+ofAnalog r =
+    record {
+      answer = analogAnswer (r .found);
+      cells = r .cells;
+      temperatures = r .temperatures;
+      «cell_warnings» = replicate 16 0;
+      «temperature_warnings» = replicate 8 0;
+      text = replicate 40 0;
+    }
+
+abbrev pub warningsAnswer : WarningsFound → Answer
+warningsAnswer (warnings.Warnings w) = Warnings w
+warningsAnswer (warnings.Refused w) = Refused w
+
+unfoldable pub ofWarnings : WarningsReading → Reply
+ofWarnings r =
+    record {
+      answer = warningsAnswer (r .found);
+      cells = replicate 16 0;
+      temperatures = replicate 8 (pos 0);
+      «cell_warnings» = r .cells;
+      «temperature_warnings» = r .temperatures;
+      text = replicate 40 0;
+    }
+
+abbrev pub ofSetting : Found → Reply
+ofSetting (setting.Set v) = bare (Setting v)
+ofSetting (setting.Refused w) = bare (Refused w)
+
+-- an answer with the first n bytes of d as its text
+unfoldable pub withText : Answer → ℕ → List ℕ → Reply
+withText a n d =
+    record {
+      answer = a;
+      cells = replicate 16 0;
+      temperatures = replicate 8 (pos 0);
+      «cell_warnings» = replicate 16 0;
+      «temperature_warnings» = replicate 8 0;
+      text = bytesAt 0 n d ++ drop n (replicate 40 0);
+    }
+
+-- ---- the record by the command asked: the bytes d
+
+unfoldable pub hardwareOf : List ℕ → Reply
+hardwareOf d = pick (eqb (length d) 20) (withText Hardware 20 d) (bare (Refused (refusedWith shape)))
+
+unfoldable pub serialOf : List ℕ → Reply
+serialOf d = pick (eqb (length d) 20 || eqb (length d) 40) (withText (Serial (length d)) (length d) d) (bare (Refused (refusedWith shape)))
+
+unfoldable pub acceptedOf : List ℕ → Reply
+acceptedOf d = pick (eqb (length d) 0) (bare Accepted) (bare (Refused (refusedWith shape)))
+
+abbrev pub payloadReply : ℕ → Command → List ℕ → Reply
+payloadReply a command.Analog d = ofAnalog (analogs.readingOf a d)
+payloadReply a command.Warnings d = ofWarnings (status.readingOf a d)
+payloadReply a command.Hardware d = hardwareOf d
+payloadReply a command.Serial d = serialOf d
+payloadReply a (command.Reads s) d = ofSetting (settings.replyOf s d)
+payloadReply a (command.Writes s) d = acceptedOf d
+payloadReply a command.Unlisted d = bare (Refused (refusedWith request))
+
+-- ---- the reply
+
+-- a whole frame from the address asked: 7, the failure, whose INFO is not looked at, 8 for an odd count of characters, or the record
+unfoldable pub answeredOf : ℕ → Command → ℕ → List ℕ → Reply
+answeredOf a c code info =
+    pick (listed c)
+    (pick (eqb code 0)
+    (pick (eqb (length info % 2) 0)
+    (payloadReply a c (bytesIn info))
+    (bare (Refused (refusedWith shape))))
+    (bare (DeviceFailure code)))
+    (bare (Refused (refusedWith request)))
+
+abbrev pub ofFrame : ℕ → ℕ → List ℕ → Frame → Reply
+ofFrame a asked s (frame.Refused w) = bare (Refused w)
+ofFrame a asked s (frame.Whole from code start len) =
+    pick (eqb from a) (answeredOf a (commandOf asked) code (infoOf s)) (bare (Refused (refusedWith address)))
+
+unfoldable pub replyOf : ℕ → ℕ → List ℕ → Reply
+replyOf a asked s = ofFrame a asked s (frameOf s)

@@ -1,0 +1,98 @@
+-- The ways out of `answerTo`, and of an answer whose payload must have a certain size, each from the facts that the code has there.
+-- Assumes nothing.
+use mathlib.Core.Path.{_≡_, refl, sym, ap, _∙_}
+use mathlib.Core.Logic.{⊎-elim}
+use mathlib.Core.List.{List, [], _∷_}
+use Prim.Native.Nat.{ℕ, _+_, _-_}
+use native.Mathlib.Omega.{arith}
+use borrow.Author.Tests.{eq-eqb, ne-eqb}
+use lib.IntN.{ℤ}
+use lib.ListN.{length, getD, take, drop}
+use types.Run.{OneOf}
+use denote.Enum.Declared.{tagOf}
+use Rattle.refusals.specs.declared.Refusal.{Refusal}
+use Rattle.refusals.specs.Refused.{refusedWith, request, shape, range}
+use Rattle.frames_tongzhu.specs.declared.Kind.{Kind}
+use Rattle.frames_tongzhu.specs.declared.Kind.the-variants.{Reads, Sets, Unlisted}
+use Rattle.frames_tongzhu.specs.Functions.{kindOf}
+use Rattle.frames_tongzhu.proofs.Kind.{the-type}
+use Rattle.frames_tongzhu.specs.declared.Frame.the-variants.{Whole, Refused as NoFrame}
+use Rattle.frames_tongzhu.specs.Reading.{frameOf}
+use Rattle.frames_tongzhu.proofs.Ladder.{payload-part}
+use Rattle.monitor3_tongzhu.specs.declared.Status.{Status}
+use Rattle.monitor3_tongzhu.specs.Values.{numberAt, currentAt, temperatureAt, statusAt}
+use Rattle.records_tongzhu.specs.declared.Monitor2.{Monitor2}
+use Rattle.records_tongzhu.specs.declared.Answer.{Answer}
+use Rattle.records_tongzhu.specs.declared.Answer.the-variants as is
+use Rattle.records_tongzhu.specs.Replies.{alone, refusedAs, monitor2Of, sized, doneOf, payloadOf, listedAnswer, byKind, answerTo, ofFrame, replyOf}
+
+module _ (n : ℕ) (p : List ℕ) (a : Answer) where
+  pub wrong-size : (length p ≡ n → ⊥) → is.Refused (refusedWith shape) ≡ sized n p a
+  unfolding sized
+  wrong-size h = simp (ne-eqb _ _ h)
+
+  pub right-size : length p ≡ n → a ≡ sized n p a
+  unfolding sized
+  right-size h = simp (eq-eqb _ _ h)
+
+-- a monitor 2 put together from its values
+pub monitor2-is : (p : List ℕ) {s : Status} {i h c : ℤ} {a b d e f g w : ℕ}
+    → s ≡ statusAt p 0 → i ≡ currentAt p 4 → a ≡ numberAt p 6 → b ≡ numberAt p 8 → d ≡ numberAt p 10
+    → h ≡ temperatureAt p 12 → c ≡ temperatureAt p 13 → e ≡ numberAt p 14 → f ≡ numberAt p 16 → g ≡ numberAt p 18 → w ≡ getD p 20 0
+    → _≡_ {A = Monitor2} (record {
+      status = s;
+      current = i;
+      highest = a;
+      lowest = b;
+      total = d;
+      hottest = h;
+      coldest = c;
+      cycles = e;
+      remaining = f;
+      capacity = g;
+      switch = w;
+    }) (monitor2Of p)
+unfolding monitor2Of
+monitor2-is p ps pi pa pb pd ph pc pe pf pg pw = rw (ps, pi, pa, pb, pd, ph, pc, pe, pf, pg, pw)
+
+pub neither : (b : ℕ) → (b ≡ 0x01 → ⊥) → (b ≡ 0x02 → ⊥) → is.Refused (refusedWith range) ≡ doneOf b
+unfolding doneOf
+neither b h g = simp (ne-eqb _ _ h, ne-eqb _ _ g)
+
+module _ (asked f : ℕ) (p : List ℕ) (k : Kind) (e : k ≡ kindOf asked) where
+  pub not-listed : k ≡ Unlisted → refusedAs request ≡ answerTo asked f p
+  unfolding answerTo
+  not-listed h = ap (λ (x : Kind). byKind x asked f p) (sym h ∙ e)
+
+  module _ (listed : OneOf (0 ∷ 1 ∷ []) (tagOf the-type k)) where
+    in-list : listedAnswer asked f p ≡ answerTo asked f p
+    unfolding answerTo
+    in-list = go k listed ∙ ap (λ (x : Kind). byKind x asked f p) e
+      where
+        go : (x : Kind) → OneOf (0 ∷ 1 ∷ []) (tagOf the-type x) → listedAnswer asked f p ≡ byKind x asked f p
+        go Reads h = refl
+        go Sets h = refl
+        go Unlisted h = absurd (⊎-elim (λ e. omega arith) (λ e. omega arith) h)
+
+    pub device-error : f ≡ 0 → length p ≡ 0 → alone is.DeviceError ≡ answerTo asked f p
+    device-error z h = simp (eq-eqb _ _ z, eq-eqb _ _ h) at in-list
+
+    pub long-error : f ≡ 0 → (length p ≡ 0 → ⊥) → refusedAs shape ≡ answerTo asked f p
+    long-error z h = simp (eq-eqb _ _ z, ne-eqb _ _ h) at in-list
+
+    pub another : (f ≡ 0 → ⊥) → (f ≡ asked → ⊥) → refusedAs request ≡ answerTo asked f p
+    another z h = simp (ne-eqb _ _ z, ne-eqb _ _ h) at in-list
+
+    pub answered : (f ≡ 0 → ⊥) → f ≡ asked → payloadOf asked p ≡ answerTo asked f p
+    answered z h = simp (ne-eqb _ _ z, eq-eqb _ _ h) at in-list
+
+-- ---- from the frame to the reply
+
+module _ (asked : ℕ) (s : List ℕ) where
+  pub no-frame : (r : Refusal) → NoFrame r ≡ frameOf s → alone (is.Refused r) ≡ replyOf asked s
+  unfolding replyOf
+  no-frame r e = ap (ofFrame asked s) e
+
+  pub whole-frame : (f st n : ℕ) → Whole f st n ≡ frameOf s → answerTo asked f (take (st + n - st) (drop st s)) ≡ replyOf asked s
+  unfolding replyOf
+  whole-frame f st n e = ap (answerTo asked f) (payload-part st n s) ∙ ap (ofFrame asked s) e

@@ -1,0 +1,59 @@
+-- `requests_pace::write_values` meets its contract: the values may be written, and the part that is lent is their INFO.
+-- Assumes nothing.
+use mathlib.Core.Path.{_≡_, refl, sym, ap, _∙_}
+use borrow.Author.Tests.{not-true, not-false}
+use Rattle.frames_pace.specs.declared.Written.the-variants.{Refused}
+use Rattle.requests_pace.proofs.Writing.{values-refused, info-fits, values-written}
+use borrow.Author.Needs.{needs}
+use Rattle.requests_pace.proofs.write_values.Statement.{statement}
+use Rattle.requests_pace.proofs.write_values.Tie as tie
+
+may-write-requires : tie.Need-may-write-requires
+may-write-requires c κs = search needs
+
+refuse-requires : tie.Need-refuse-requires
+refuse-requires c κs = search needs
+
+returns : tie.Need-returns
+returns c = (ap Refused (c .refuse .ensures) ∙ values-refused _ _ _ (sym (c .before .before .may-write .ensures) ∙ not-true _ (c .before .if1 .taken)), refl)
+
+info-of-requires : tie.Need-info-of-requires
+info-of-requires c κs = search needs
+
+sub-write-frame : tie.Need-sub-write-frame
+sub-write-frame c = search needs
+
+part-write-frame-start : tie.Need-part-write-frame-start
+part-write-frame-start c = search needs
+
+part-write-frame-end : tie.Need-part-write-frame-end
+part-write-frame-end c = let i = c .before .before in let a = i .before .before .before .before .args in info-fits (a .address) (a .values) (a .out .now) (i .info-of .result) (i .info-of .ensures)
+
+write-frame-requires : tie.Need-write-frame-requires
+write-frame-requires c κs = search needs
+
+same-length : tie.Need-same-length
+same-length c = search needs
+
+returns-2 : tie.Need-returns-2
+returns-2 c =
+    let w = c .before .before in
+    let i = w .before .before .before .before .before in
+    let one = i .before in
+    let a = one .before .before .before .args in
+    values-written (a .address) (a .values) (a .out .now) (i .info-of .result) (i .info-of .ensures) (sym (one .before .may-write .ensures) ∙ not-false _ (one .if1 .left)) _ (w .write-frame .result) (w .write-frame .ensures .0) (w .write-frame .ensures .1)
+
+pub write-values-spec : {M : Type 1} → statement M
+write-values-spec =
+    tie.close
+    (tie.spec
+    may-write-requires
+    refuse-requires
+    returns
+    info-of-requires
+    sub-write-frame
+    part-write-frame-start
+    part-write-frame-end
+    write-frame-requires
+    same-length
+    returns-2)

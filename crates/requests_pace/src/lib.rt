@@ -1,0 +1,157 @@
+// PACE requests, written and read (004; 01, PACE): 42 and 44 with the address as their one INFO byte; C1, C2, D1, DB without INFO; D0 and DA with values.
+use characters_pace::byte_of;
+use frames_pace::Frame;
+use frames_pace::Written;
+use frames_pace::read_frame;
+use frames_pace::write_frame;
+use refusals::Refusal;
+use refusals::refuse;
+use rows_pace::Command;
+use rows_pace::Setting;
+use rows_pace::Values;
+use rows_pace::command_of;
+use rows_pace::info_of;
+use rows_pace::may_write;
+use settings_pace::Found;
+use settings_pace::parse_setting;
+ghost use mathlib.Core.Path.{_≡_};
+ghost use Rattle.requests_pace.specs.Request.{kindOf, writtenOf, roomAfter};
+ghost use Rattle.requests_pace.specs.Parsed.{ofFound, wholeOf, parsedOf};
+
+pub enum Request {
+    // A request without values.
+    Ask { address: u8, command: u8 },
+    // Values to be written.
+    Set { address: u8, values: Values },
+}
+
+// What characters are as a request.
+pub enum Parsed {
+    Is(Request),
+    Refused(Refusal),
+}
+
+// What a command's request carries.
+pub enum Kind {
+    // The address as its one byte.
+    Addressed,
+    // No INFO.
+    Bare,
+    // The values of a setting.
+    Carries(Setting),
+    Unlisted,
+}
+
+fn kind_of(command: Command) -> Kind
+    ensures { λ r. ⌜ r ≡ kindOf command ⌝ }
+{
+    match command {
+        Command::Analog => Kind::Addressed,
+        Command::Warnings => Kind::Addressed,
+        Command::Hardware => Kind::Bare,
+        Command::Serial => Kind::Bare,
+        Command::Reads(_) => Kind::Bare,
+        Command::Writes(setting) => Kind::Carries(setting),
+        Command::Unlisted => Kind::Unlisted,
+    }
+}
+
+// Writes a request to the front of the room, or says why not.
+pub fn write_request(q: Request, out: &mut [u8]) -> Written
+    ensures answer { λ r. ⌜ r ≡ writtenOf q (now (out .entry)) ⌝ }
+    ensures filled { λ r. ⌜ now (out .exit) ≡ roomAfter r q (now (out .entry)) ⌝ }
+{
+    match q {
+        Request::Ask { address, command } => write_ask(address, command, out),
+        Request::Set { address, values } => write_values(address, values, out),
+    }
+}
+
+fn write_ask(address: u8, command: u8, out: &mut [u8]) -> Written
+    ensures answer { λ r. ⌜ r ≡ writtenOf (Request.Ask address command) (now (out .entry)) ⌝ }
+    ensures filled { λ r. ⌜ now (out .exit) ≡ roomAfter r (Request.Ask address command) (now (out .entry)) ⌝ }
+{
+    let info = [address];
+    let k = kind_of(command_of(command));
+    match k {
+        Kind::Addressed => write_frame(address, command, &info[0..1], out),
+        Kind::Bare => write_frame(address, command, &info[0..0], out),
+        Kind::Carries(_) => Written::Refused(refuse(refusals::SHAPE)),
+        Kind::Unlisted => Written::Refused(refuse(refusals::REQUEST)),
+    }
+}
+
+fn write_values(address: u8, values: Values, out: &mut [u8]) -> Written
+    ensures answer { λ r. ⌜ r ≡ writtenOf (Request.Set address values) (now (out .entry)) ⌝ }
+    ensures filled { λ r. ⌜ now (out .exit) ≡ roomAfter r (Request.Set address values) (now (out .entry)) ⌝ }
+{
+    if !may_write(values) {
+        return Written::Refused(refuse(refusals::RANGE));
+    }
+    let info = info_of(values);
+    let bytes = info.bytes;
+    let n = info.len;
+    write_frame(address, info.command, &bytes[0..n], out)
+}
+
+// The request that the characters are, or why they are none.
+pub fn read_request(s: &[u8]) -> Parsed
+    ensures { λ r. ⌜ r ≡ parsedOf (now (s .entry)) ⌝ }
+{
+    let f = read_frame(s);
+    match f {
+        Frame::Refused(w) => Parsed::Refused(w),
+        Frame::Whole {
+            address,
+            command,
+            start,
+            len,
+        } => whole(address, command, &s[start..start + len]),
+    }
+}
+
+// A whole frame: its address, its command and its INFO.
+fn whole(address: u8, code: u8, info: &[u8]) -> Parsed
+    ensures { λ r. ⌜ r ≡ wholeOf address code (now (info .entry)) ⌝ }
+{
+    let k = kind_of(command_of(code));
+    match k {
+        Kind::Addressed => {
+            if info.len() != 2 {
+                return Parsed::Refused(refuse(refusals::SHAPE));
+            }
+            if byte_of(info, 0) != address {
+                return Parsed::Refused(refuse(refusals::SHAPE));
+            }
+            Parsed::Is(Request::Ask {
+                address,
+                command: code,
+            })
+        }
+        Kind::Bare => {
+            if info.len() != 0 {
+                return Parsed::Refused(refuse(refusals::SHAPE));
+            }
+            Parsed::Is(Request::Ask {
+                address,
+                command: code,
+            })
+        }
+        Kind::Carries(setting) => {
+            if info.len() % 2 != 0 {
+                return Parsed::Refused(refuse(refusals::SHAPE));
+            }
+            with_values(address, parse_setting(setting, info))
+        }
+        Kind::Unlisted => Parsed::Refused(refuse(refusals::REQUEST)),
+    }
+}
+
+fn with_values(address: u8, found: Found) -> Parsed
+    ensures { λ r. ⌜ r ≡ ofFound address found ⌝ }
+{
+    match found {
+        Found::Set(values) => Parsed::Is(Request::Set { address, values }),
+        Found::Refused(w) => Parsed::Refused(w),
+    }
+}

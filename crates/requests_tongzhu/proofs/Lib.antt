@@ -1,0 +1,4 @@
+pub mod Moments
+pub mod Parsing
+pub mod RoundTrip
+pub mod Wires

@@ -1,0 +1,80 @@
+-- The settings of a PACE pack, one row each: its commands, its shape in INFO and what may be written (004, "Parameter Setting" tab; 01, PACE).
+-- A row more is a case more here and an entry more in the list.
+-- Assumes nothing.
+use mathlib.Core.Bool.{Bool, true, false, _&&_}
+use mathlib.Core.List.{List, [], _∷_}
+use Prim.Native.Nat.{ℕ, _-_, _%_}
+use lib.Dec.{leb, eqb}
+use lib.ListN.{getD}
+use Rattle.characters_pace.specs.Characters.{allOf}
+use Rattle.rows_pace.specs.declared.Setting.{Setting}
+use Rattle.rows_pace.specs.declared.Setting.the-variants.{Overvoltage, Discharge}
+use Rattle.rows_pace.specs.declared.Row.{Row}
+use Rattle.rows_pace.specs.declared.Values.{Values}
+use Rattle.rows_pace.specs.declared.Values.the-variants.{CellOvervoltage, SlowDischarge}
+
+-- every setting
+unfoldable pub settings : List Setting
+settings = Overvoltage ∷ Discharge ∷ []
+
+unfoldable pub rowOf : Setting → Row
+rowOf Overvoltage =
+    record {
+      reads = 0xD1;
+      writes = 0xD0;
+      lead = 1;
+      amounts = 3;
+      negated = false;
+      low = 2500;
+      high = 4500;
+      step = 10;
+      «delay_low» = 10;
+      «delay_high» = 50;
+      «delay_step» = 5;
+    }
+rowOf Discharge =
+    record {
+      reads = 0xDB;
+      writes = 0xDA;
+      lead = 1;
+      amounts = 2;
+      negated = true;
+      low = 1;
+      high = 150;
+      step = 1;
+      «delay_low» = 5;
+      «delay_high» = 100;
+      «delay_step» = 5;
+    }
+
+-- ---- the values by name, and as setting, amounts and delay
+
+abbrev pub settingOf : Values → Setting
+settingOf (CellOvervoltage alarm protect release delay) = Overvoltage
+settingOf (SlowDischarge alarm protect delay) = Discharge
+
+abbrev pub amountsOf : Values → List ℕ
+amountsOf (CellOvervoltage alarm protect release delay) = alarm ∷ protect ∷ release ∷ []
+amountsOf (SlowDischarge alarm protect delay) = alarm ∷ protect ∷ []
+
+abbrev pub delayOf : Values → ℕ
+delayOf (CellOvervoltage alarm protect release delay) = delay
+delayOf (SlowDischarge alarm protect delay) = delay
+
+abbrev pub valuesOf : Setting → List ℕ → ℕ → Values
+valuesOf Overvoltage a delay = CellOvervoltage (getD a 0 0) (getD a 1 0) (getD a 2 0) delay
+valuesOf Discharge a delay = SlowDischarge (getD a 0 0) (getD a 1 0) delay
+
+-- ---- what may be written
+
+-- from low to high in steps
+abbrev pub inSteps : ℕ → ℕ → ℕ → ℕ → Bool
+inSteps low high step n = leb low n && (leb n high && eqb ((n - low) % step) 0)
+
+unfoldable pub allowed : Row → List ℕ → ℕ → Bool
+allowed row amounts delay =
+    allOf (inSteps (row .low) (row .high) (row .step)) amounts
+    && inSteps (row .«delay_low») (row .«delay_high») (row .«delay_step») delay
+
+abbrev pub allowedOf : Values → Bool
+allowedOf v = allowed (rowOf (settingOf v)) (amountsOf v) (delayOf v)

@@ -1,0 +1,137 @@
+// PACE settings in INFO: the values of a reply and those of a request (004, "Parameter Setting" tab; 01, PACE).
+// INFO comes as characters; what is said of it is said of the bytes that they carry.
+use characters_pace::byte_of;
+use characters_pace::words_of;
+use numbers::signed16;
+use refusals::Refusal;
+use refusals::refuse;
+use rows_pace::Row;
+use rows_pace::Setting;
+use rows_pace::Values;
+use rows_pace::may_write;
+use rows_pace::row_of;
+use rows_pace::values_of;
+ghost use mathlib.Core.Path.{_≡_};
+ghost use mathlib.Core.List.{map};
+ghost use Prim.Native.Nat.{_≤_};
+ghost use Rattle.characters_pace.specs.Characters.{allOf, bytesIn};
+ghost use Rattle.settings_pace.specs.Reading.{shaped, amountOf, isAmount, amountIn, replyOf, requestOf};
+
+// The values of a setting in INFO, or why there are none.
+pub enum Found {
+    Set(Values),
+    Refused(Refusal),
+}
+
+// The values in the INFO of a reply: all are kept; a positive amount in a negated row is refused.
+pub fn read_setting(setting: Setting, info: &[u8]) -> Found
+    ensures { λ r. ⌜ r ≡ replyOf setting (bytesIn (now (info .entry))) ⌝ }
+{
+    let row = row_of(setting);
+    if !has_shape(row, info) {
+        return Found::Refused(refuse(refusals::SHAPE));
+    }
+    let n = row.amounts;
+    let negated = row.negated;
+    let mut amounts = [0u16; 3];
+    words_of(info, 1, &mut amounts[0..n]);
+    if !all_readable(negated, &amounts[0..n]) {
+        return Found::Refused(refuse(refusals::RANGE));
+    }
+    turn(negated, &mut amounts[0..n]);
+    Found::Set(values_of(setting, amounts, byte_of(info, 2 * n + 1)))
+}
+
+// The values in the INFO of a request: the plain amounts, all of which may be written.
+pub fn parse_setting(setting: Setting, info: &[u8]) -> Found
+    ensures { λ r. ⌜ r ≡ requestOf setting (bytesIn (now (info .entry))) ⌝ }
+{
+    let row = row_of(setting);
+    if !has_shape(row, info) {
+        return Found::Refused(refuse(refusals::SHAPE));
+    }
+    let n = row.amounts;
+    let mut amounts = [0u16; 3];
+    words_of(info, 1, &mut amounts[0..n]);
+    let v = values_of(setting, amounts, byte_of(info, 2 * n + 1));
+    if !may_write(v) {
+        return Found::Refused(refuse(refusals::RANGE));
+    }
+    Found::Set(v)
+}
+
+// Whether INFO has the row's length and lead byte.
+fn has_shape(row: Row, info: &[u8]) -> bool
+    requires { ⌜ row .amounts ≤ 3 ⌝ }
+    ensures { λ r. ⌜ r ≡ shaped row (bytesIn (now (info .entry))) ⌝ }
+{
+    if info.len() / 2 != 2 * row.amounts + 2 {
+        return false;
+    }
+    byte_of(info, 0) == row.lead
+}
+
+// What two bytes of a reply stand for.
+pub enum Amount {
+    Is(u16),
+    // A positive number where the negated amount is awaited.
+    Positive,
+}
+
+// The signed 16 bits are widened to 32 and negated there.
+fn amount_of(negated: bool, word: u16) -> Amount
+    ensures { λ r. ⌜ r ≡ amountOf negated word ⌝ }
+{
+    if !negated {
+        return Amount::Is(word);
+    }
+    let v = signed16(word) as i32;
+    if 0 < v {
+        return Amount::Positive;
+    }
+    Amount::Is((-v) as u16)
+}
+
+fn is_readable(negated: bool, word: u16) -> bool
+    ensures { λ r. ⌜ r ≡ isAmount (amountOf negated word) ⌝ }
+{
+    let a = amount_of(negated, word);
+    match a {
+        Amount::Is(_) => true,
+        Amount::Positive => false,
+    }
+}
+
+fn turned(negated: bool, word: u16) -> u16
+    ensures { λ r. ⌜ r ≡ amountIn (amountOf negated word) ⌝ }
+{
+    let a = amount_of(negated, word);
+    match a {
+        Amount::Is(n) => n,
+        Amount::Positive => 0,
+    }
+}
+
+fn all_readable(negated: bool, words: &[u16]) -> bool
+    ensures { λ r. ⌜ r ≡ allOf (λ w. isAmount (amountOf negated w)) (now (words .entry)) ⌝ }
+{
+    let mut i = 0;
+    while i < words.len() {
+        if !is_readable(negated, words[i]) {
+            return false;
+        }
+        i += 1;
+    }
+    true
+}
+
+// Each word becomes the amount that it stands for.
+fn turn(negated: bool, words: &mut [u16])
+    ensures { λ _. ⌜ now (words .exit) ≡ map (λ w. amountIn (amountOf negated w)) (now (words .entry)) ⌝ }
+{
+    let mut i = 0;
+    while i < words.len() {
+        words[i] = turned(negated, words[i]);
+        i += 1;
+    }
+}

@@ -1,0 +1,101 @@
+// tzshow: reads one reply to Tongzhu's function 11 from standard input and prints it, a field to a line (01, Examples).
+ghost use Prim.Native.Nat.{_<_};
+use libc::STDIN_FILENO;
+use libc::STDOUT_FILENO;
+use monitor3_tongzhu::Status;
+use records_tongzhu::Answer;
+use records_tongzhu::Monitor2;
+use records_tongzhu::read_reply;
+
+fn main() {
+    // A frame has at most 255 bytes: a longer input is refused for its first 256 bytes as it is for all (`long-input` of frames_tongzhu).
+    let mut bytes = [0u8; 256];
+    let n = io::read_full(STDIN_FILENO, &mut bytes);
+    let r = read_reply(0x11, &bytes[..n]);
+    let answer = r.answer;
+    show(answer);
+    drain();
+}
+
+// Prints an answer. Function 11 has no answer but these three.
+fn show(answer: Answer) {
+    match answer {
+        Answer::Monitor2(m) => show_monitor2(m),
+        Answer::DeviceError => put(b"device error\n"),
+        Answer::Refused(r) => field(b"refused ", r.number as u64),
+        _ => {}
+    }
+}
+
+fn show_monitor2(m: Monitor2) {
+    put(b"monitor2\n");
+    show_status(m.status);
+    signed_field(b"current_100ma ", m.current);
+    field(b"highest_mv ", m.highest as u64);
+    field(b"lowest_mv ", m.lowest as u64);
+    field(b"total_10mv ", m.total as u64);
+    signed_field(b"hottest_c ", wide(m.hottest));
+    signed_field(b"coldest_c ", wide(m.coldest));
+    field(b"cycles ", m.cycles as u64);
+    field(b"remaining_100mah ", m.remaining as u64);
+    field(b"capacity_100mah ", m.capacity as u64);
+    field(b"switch ", m.switch as u64);
+}
+
+fn show_status(s: Status) {
+    put(b"status ");
+    io::print_decimal(STDOUT_FILENO, s.first as u64);
+    put(b" ");
+    io::print_decimal(STDOUT_FILENO, s.second as u64);
+    put(b" ");
+    io::print_decimal(STDOUT_FILENO, s.third as u64);
+    field(b" ", s.fourth as u64);
+}
+
+// A name, a number and the line's end.
+fn field(name: &[u8], n: u64) {
+    put(name);
+    io::print_decimal(STDOUT_FILENO, n);
+    put(b"\n");
+}
+
+// The same of a number that may be negative: its 16 bits say whether it is.
+fn signed_field(name: &[u8], v: i16) {
+    put(name);
+    let n = numbers::bits16(v) as u64;
+    if n < 32768 {
+        field(b"", n);
+    } else {
+        field(b"-", 65536 - n);
+    }
+}
+
+fn wide(v: i8) -> i16 {
+    v as i16
+}
+
+fn put(s: &[u8]) {
+    io::write_all(STDOUT_FILENO, s);
+}
+
+// Reads what is left of the input, so that whoever writes it is not cut off. A proved loop has to end, and nothing says that the
+// input does: it counts its turns down, from a number that no run uses up.
+fn drain() {
+    let mut turns = u64::MAX;
+    while turns > 0 {
+        turns = fewer(turns, at_end());
+    }
+}
+
+fn at_end() -> bool {
+    let mut rest = [0u8; 4096];
+    let got = libc::read(STDIN_FILENO, &mut rest);
+    io::count(got, &rest) == 0
+}
+
+fn fewer(turns: u64, ended: bool) -> u64
+    requires { ⌜ 0 < turns ⌝ }
+    ensures { λ r. ⌜ r < turns ⌝ }
+{
+    if ended { 0 } else { turns - 1 }
+}

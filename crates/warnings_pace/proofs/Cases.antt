@@ -1,0 +1,35 @@
+-- The cases of `readingOf`, each from the facts that the reader has at that place.
+-- Assumes nothing.
+use mathlib.Core.Path.{_≡_}
+use mathlib.Core.Bool.{false}
+use mathlib.Core.List.{List, _++_}
+use Prim.Native.Nat.{ℕ, _+_, _-_, _≤_}
+use borrow.Rule.Slice.PartMut.{putMid}
+use lib.ListN.{length, getD, take, drop, replicate}
+use Rattle.characters_pace.specs.Characters.{bytesAt}
+use Rattle.characters_pace.proofs.Firsts.{firsts-front}
+use Rattle.counts_pace.specs.declared.Counts.the-variants.{Are, Wrong}
+use Rattle.counts_pace.specs.Counts.{countsOf}
+use Rattle.warnings_pace.specs.declared.Warnings.{Warnings}
+use Rattle.warnings_pace.specs.declared.Found.the-variants as found
+use Rattle.warnings_pace.specs.declared.Reading.{Reading}
+use Rattle.warnings_pace.specs.Warnings.{statusOf, nothing, countedOf, readingOf}
+
+-- the arrays before
+abbrev pub cellPlaces : List ℕ
+cellPlaces = replicate 16 0
+
+abbrev pub temperaturePlaces : List ℕ
+temperaturePlaces = replicate 8 0
+
+module _ (address : ℕ) (d : List ℕ) where
+  pub misshapen : countsOf false 12 address d ≡ Wrong → nothing ≡ readingOf address d
+  unfolding readingOf
+  misshapen e = rw e
+
+  pub read : (c t : ℕ) → countsOf false 12 address d ≡ Are c t → c ≤ 16 → t ≤ 8 → (w : Warnings) (xs ys : List ℕ) → w ≡ statusOf c t d
+      → xs ≡ bytesAt 3 (length (take (c - 0) cellPlaces)) d → ys ≡ bytesAt (c + 4) (length (take (t - 0) temperaturePlaces)) d
+      → _≡_ {A = Reading} (record { found = found.Warnings w; cells = putMid 0 (c - 0) cellPlaces xs; temperatures = putMid 0 (t - 0) temperaturePlaces ys }) (readingOf address d)
+  unfolding readingOf
+  read c t e few cool w xs ys k x y =
+      rw (e, k, firsts-front (λ i. getD d (3 + i) 0) c cellPlaces xs few x, firsts-front (λ i. getD d (c + 4 + i) 0) t temperaturePlaces ys cool y)
