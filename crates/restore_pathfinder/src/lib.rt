@@ -262,9 +262,10 @@ fn stopped(job: Job) -> Job
 {
     let present = job.present;
     let wanted = job.wanted;
+    let phase = Phase::Stopped;
     Job {
         present,
         wanted,
-        phase: Phase::Stopped,
+        phase,
     }
 }
