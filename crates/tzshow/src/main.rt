@@ -78,8 +78,8 @@ fn put(s: &[u8]) {
     io::write_all(STDOUT_FILENO, s);
 }
 
-// Reads what is left of the input, so that whoever writes it is not cut off. A proved loop has to end, and nothing says that the
-// input does: it counts its turns down, from a number that no run uses up.
+// Reads what is left of the input, so that whoever writes it is not cut off. The prover wants a loop that ends whatever the input does,
+// so the reads are counted, from more than there can be.
 fn drain() {
     let mut turns = u64::MAX;
     while turns > 0 {
