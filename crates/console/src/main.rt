@@ -32,7 +32,7 @@ fn main() {
     talk(&mut line, &mut bytes, &mut out);
 }
 
-// A proved loop has to end, and nothing says that the input does: it counts its turns down, from a number that no run uses up.
+// Reads until the input ends. Every loop must be shown to stop, so this one has a limit of reads, far above what any input takes.
 fn talk(line: &mut [u8], bytes: &mut [u8], out: &mut [u8]) {
     let mut t = Turn {
         had: 0,
