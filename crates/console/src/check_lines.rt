@@ -1,7 +1,7 @@
 // The lines that begin with `check`: checksum and closing sums of a byte string.
 use crate::text;
 use crate::words;
-use crate::words::HexWord;
+use crate::words::Verdict;
 
 // The three calls.
 enum Call {
@@ -12,23 +12,16 @@ enum Call {
 }
 
 pub fn answer(line: &[u8], bytes: &mut [u8], out: &mut [u8], at: usize) -> usize {
-    if !words::has(line, 1) {
-        return text::put_line(out, at, b"? too few words");
-    }
-    let call = call_of(words::word(line, 1));
+    let name = words::word(line, 1);
+    let call = call_of(name);
     if let Call::None = call {
-        return text::put_line(out, at, b"? unknown word");
+        return text::put_fault(out, at, words::unlisted(name));
     }
-    let counted = words::count_is(line, 3);
-    if counted != 0 {
-        return text::put_count(out, at, counted);
+    let mut v = [0u64; 8];
+    if let Verdict::Faulty(f) = words::parameters(line, b"h", bytes, &mut v) {
+        return text::put_fault(out, at, f);
     }
-    let HexWord::Bytes(n) = words::hex(words::word(line, 2), bytes) else {
-        return text::put_line(out, at, b"? not hex");
-    };
-    if bytes.len() < n {
-        return at;
-    }
+    let n = text::places_of(v[0], bytes.len());
     checked(call, &bytes[0..n], out, at)
 }
 
@@ -47,9 +40,15 @@ fn call_of(w: &[u8]) -> Call {
 
 fn checked(call: Call, s: &[u8], out: &mut [u8], at: usize) -> usize {
     match call {
-        Call::Crc => text::put_named_word(out, at, b"ok crc ", checks::crc16(s)),
-        Call::Sum8 => text::put_named_byte(out, at, b"ok sum8 ", checks::close256(s)),
-        Call::Sum16 => text::put_named_word(out, at, b"ok sum16 ", checks::close65536(s)),
+        Call::Crc => put_sum(out, at, b"ok crc %%\n", checks::crc16(s)),
+        Call::Sum8 => put_sum(out, at, b"ok sum8 %\n", checks::close256(s) as u16 * 256),
+        Call::Sum16 => put_sum(out, at, b"ok sum16 %%\n", checks::close65536(s)),
         Call::None => at,
     }
+}
+
+// A form with the two bytes of a number, the high one first.
+fn put_sum(out: &mut [u8], at: usize, form: &[u8], n: u16) -> usize {
+    let bytes = [text::from_u16(n / 256), text::from_u16(n % 256)];
+    text::put_form(out, at, form, &bytes)
 }

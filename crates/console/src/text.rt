@@ -1,10 +1,14 @@
 // Writing an answer into the room lent for it. Each function takes the place to write at and answers the place after what it wrote;
 // what does not fit is left out, and the room is larger than any answer.
 ghost use Prim.Native.Nat.{_≤_};
+use crate::words::Fault;
 use refusals::Refusal;
 
+// A value of a form is a number of 64 bits in two's complement. This one, which no field of a record has, is written as `missing`.
+pub const MISSING: u64 = 0x8000000000000000;
+
 // One byte.
-pub fn put(out: &mut [u8], at: usize, b: u8) -> usize {
+fn put(out: &mut [u8], at: usize, b: u8) -> usize {
     if at < out.len() {
         out[at] = b;
         at + 1
@@ -24,100 +28,93 @@ pub fn put_all(out: &mut [u8], from: usize, s: &[u8]) -> usize {
     at
 }
 
-// Some bytes and the line's end.
-pub fn put_line(out: &mut [u8], at: usize, s: &[u8]) -> usize {
-    let end = put_all(out, at, s);
-    put(out, end, b'\n')
-}
-
-// A number below 16 as an upper-case hex digit.
-fn digit(n: u8) -> u8 {
-    let d = n % 16;
-    if d < 10 { d + 48 } else { d + 55 }
-}
-
-// A byte as two hex digits.
-pub fn put_byte(out: &mut [u8], at: usize, b: u8) -> usize {
-    let low = put(out, at, digit(b / 16));
-    put(out, low, digit(b))
-}
-
-// A number of 16 bits as four hex digits.
-pub fn put_word(out: &mut [u8], at: usize, n: u16) -> usize {
-    let low = put_byte(out, at, (n / 256) as u8);
-    put_byte(out, low, (n % 256) as u8)
-}
-
-// A line of some bytes and a byte.
-pub fn put_named_byte(out: &mut [u8], at: usize, name: &[u8], b: u8) -> usize {
-    let value = put_all(out, at, name);
-    let end = put_byte(out, value, b);
-    put(out, end, b'\n')
-}
-
-// A line of some bytes and a number of 16 bits.
-pub fn put_named_word(out: &mut [u8], at: usize, name: &[u8], n: u16) -> usize {
-    let value = put_all(out, at, name);
-    let end = put_word(out, value, n);
-    put(out, end, b'\n')
-}
-
-// A line of a refusal.
-pub fn put_refused(out: &mut [u8], at: usize, r: Refusal) -> usize {
-    put_named_number(out, at, b"refused ", wide(r.number))
-}
-
-// A line of some bytes and a number.
-pub fn put_named_number(out: &mut [u8], at: usize, name: &[u8], n: u64) -> usize {
-    let value = put_all(out, at, name);
-    let end = put_number(out, value, n);
-    put(out, end, b'\n')
-}
-
-// A line of some bytes and a signed number.
-pub fn put_named_signed(out: &mut [u8], at: usize, name: &[u8], v: i64) -> usize {
-    let value = put_all(out, at, name);
-    let end = put_signed(out, value, v);
-    put(out, end, b'\n')
-}
-
-// A line of some bytes and a byte string, `-` for none.
-pub fn put_named_bytes(out: &mut [u8], at: usize, name: &[u8], s: &[u8]) -> usize {
-    let value = put_all(out, at, name);
-    let end = put_bytes(out, value, s);
-    put(out, end, b'\n')
-}
-
-// A line of the frame that stands at the front of a room.
-pub fn put_frame(out: &mut [u8], at: usize, room: &[u8], n: usize) -> usize {
-    if room.len() < n {
-        return at;
+// A form: its bytes as they stand, but for `#`, which is the next value in decimal, and `%`, which is the next value, a byte, in hex.
+pub fn put_form(out: &mut [u8], from: usize, form: &[u8], values: &[u64]) -> usize {
+    let mut at = from;
+    let mut next = 0;
+    let mut i = 0;
+    while i < form.len() {
+        let c = form[i];
+        at = put_part(out, at, c, value_at(values, next));
+        next = next_after(next, c);
+        i += 1;
     }
-    put_named_bytes(out, at, b"ok frame ", &room[0..n])
+    at
 }
 
-// A number in decimal.
-pub fn put_number(out: &mut [u8], at: usize, n: u64) -> usize {
+// A form with one value.
+pub fn put_with(out: &mut [u8], at: usize, form: &[u8], v: u64) -> usize {
+    let values = [v];
+    put_form(out, at, form, &values)
+}
+
+fn put_part(out: &mut [u8], at: usize, c: u8, v: u64) -> usize {
+    match c {
+        35 => put_value(out, at, v),
+        37 => put_byte(out, at, byte_of(v)),
+        _ => put(out, at, c),
+    }
+}
+
+// The place of the value that comes after this byte of a form. No form has as many as 1,000.
+fn next_after(next: usize, c: u8) -> usize {
+    if c == b'#' || c == b'%' {
+        if next < 1000 { next + 1 } else { next }
+    } else {
+        next
+    }
+}
+
+fn value_at(values: &[u64], i: usize) -> u64 {
+    if i < values.len() { values[i] } else { 0 }
+}
+
+// A value in decimal.
+fn put_value(out: &mut [u8], at: usize, v: u64) -> usize {
+    if v == MISSING {
+        return put_all(out, at, b"missing");
+    }
+    if v < MISSING {
+        return put_number(out, at, v);
+    }
+    let sign = put(out, at, b'-');
+    put_number(out, sign, u64::MAX - v + 1)
+}
+
+fn put_number(out: &mut [u8], at: usize, n: u64) -> usize {
     let mut text = [0u8; 20];
     let k = io::decimal(n, &mut text);
     put_all(out, at, &text[..k])
 }
 
-// A signed number in decimal: -(n + 1) has the bits of n turned over.
-pub fn put_signed(out: &mut [u8], at: usize, v: i64) -> usize {
-    if 0 <= v {
-        return put_number(out, at, v as u64);
-    }
-    let sign = put(out, at, b'-');
-    put_number(out, sign, (!v) as u64 + 1)
+// A byte as two hex digits.
+fn put_byte(out: &mut [u8], at: usize, b: u8) -> usize {
+    let low = put(out, at, digit(b / 16));
+    put(out, low, digit(b % 16))
 }
 
-// Bytes as hex digits, `-` for none.
-pub fn put_bytes(out: &mut [u8], from: usize, s: &[u8]) -> usize {
-    if s.len() == 0 {
-        return put(out, from, b'-');
+// A number below 16 as an upper-case hex digit.
+fn digit(n: u8) -> u8 {
+    if n < 10 {
+        48 + n
+    } else if n < 16 {
+        55 + n
+    } else {
+        48
     }
-    put_digits(out, from, s)
+}
+
+// A line of some bytes and a byte string, `-` for none: the first n of those lent.
+pub fn put_bytes(out: &mut [u8], at: usize, name: &[u8], s: &[u8], n: usize) -> usize {
+    if s.len() < n {
+        return at;
+    }
+    let value = put_all(out, at, name);
+    if n == 0 {
+        return put_all(out, value, b"-\n");
+    }
+    let end = put_digits(out, value, &s[0..n]);
+    put(out, end, b'\n')
 }
 
 fn put_digits(out: &mut [u8], from: usize, s: &[u8]) -> usize {
@@ -130,36 +127,156 @@ fn put_digits(out: &mut [u8], from: usize, s: &[u8]) -> usize {
     at
 }
 
-// A byte as a number.
-pub fn wide(b: u8) -> u64 {
-    b as u64
+// ---- lists: the first n numbers of those lent, a space before each
+
+pub fn put_u8s(out: &mut [u8], from: usize, s: &[u8], n: usize) -> usize {
+    let mut at = from;
+    let mut i = 0;
+    while i < s.len() {
+        if n <= i {
+            return at;
+        }
+        at = put_one(out, at, from_u8(s[i]));
+        i += 1;
+    }
+    at
 }
 
-// What a line with too few or too many words answers.
-pub fn put_count(out: &mut [u8], at: usize, counted: u8) -> usize {
-    if counted == 1 {
-        put_line(out, at, b"? too few words")
-    } else {
-        put_line(out, at, b"? too many words")
+pub fn put_i8s(out: &mut [u8], from: usize, s: &[i8], n: usize) -> usize {
+    let mut at = from;
+    let mut i = 0;
+    while i < s.len() {
+        if n <= i {
+            return at;
+        }
+        at = put_one(out, at, from_i8(s[i]));
+        i += 1;
+    }
+    at
+}
+
+pub fn put_u16s(out: &mut [u8], from: usize, s: &[u16], n: usize) -> usize {
+    let mut at = from;
+    let mut i = 0;
+    while i < s.len() {
+        if n <= i {
+            return at;
+        }
+        at = put_one(out, at, from_u16(s[i]));
+        i += 1;
+    }
+    at
+}
+
+pub fn put_i32s(out: &mut [u8], from: usize, s: &[i32], n: usize) -> usize {
+    let mut at = from;
+    let mut i = 0;
+    while i < s.len() {
+        if n <= i {
+            return at;
+        }
+        at = put_one(out, at, from_i32(s[i]));
+        i += 1;
+    }
+    at
+}
+
+fn put_one(out: &mut [u8], at: usize, v: u64) -> usize {
+    let value = put(out, at, b' ');
+    put_value(out, value, v)
+}
+
+// ---- answers that every device has
+
+pub fn put_refused(out: &mut [u8], at: usize, r: Refusal) -> usize {
+    put_with(out, at, b"refused #\n", from_u8(r.number))
+}
+
+// What a line that is no call answers.
+pub fn put_fault(out: &mut [u8], at: usize, fault: Fault) -> usize {
+    match fault {
+        Fault::LineTooLong => put_all(out, at, b"? line too long\n"),
+        Fault::UnknownWord => put_all(out, at, b"? unknown word\n"),
+        Fault::TooFewWords => put_all(out, at, b"? too few words\n"),
+        Fault::TooManyWords => put_all(out, at, b"? too many words\n"),
+        Fault::NotHex => put_all(out, at, b"? not hex\n"),
+        Fault::NotANumber => put_all(out, at, b"? not a number\n"),
+        Fault::OutOfRange => put_all(out, at, b"? number out of range\n"),
+        Fault::NoJob => put_all(out, at, b"? no job\n"),
     }
 }
 
-// A number as a count of places, at most so many.
-pub fn at_most(n: u64, most: usize) -> usize
+// ---- values of other types
+
+pub fn from_u8(v: u8) -> u64 {
+    v as u64
+}
+
+pub fn from_u16(v: u16) -> u64 {
+    v as u64
+}
+
+pub fn from_u32(v: u32) -> u64 {
+    v as u64
+}
+
+pub fn from_usize(v: usize) -> u64 {
+    v as u64
+}
+
+pub fn from_i8(v: i8) -> u64 {
+    extended(numbers::bits8(v) as u64, 0x80)
+}
+
+pub fn from_i16(v: i16) -> u64 {
+    extended(numbers::bits16(v) as u64, 0x8000)
+}
+
+pub fn from_i32(v: i32) -> u64 {
+    extended(numbers::bits32(v) as u64, 0x80000000)
+}
+
+// A number in two's complement, whose sign has this place value, in 64 bits.
+fn extended(bits: u64, sign: u64) -> u64 {
+    if bits < sign {
+        return bits;
+    }
+    if sign < 0x100000000 {
+        if bits < sign + sign {
+            return u64::MAX - (sign + sign - bits - 1);
+        }
+    }
+    0
+}
+
+pub fn from_i64(v: i64) -> u64 {
+    if 0 <= v {
+        return v as u64;
+    }
+    u64::MAX - (!v) as u64
+}
+
+// ---- parameters in the type of their call; their ranges were tested when they were read, so that nothing is cut off here
+
+pub fn byte_of(v: u64) -> u8 {
+    (v % 256) as u8
+}
+
+pub fn half_of(v: u64) -> u16 {
+    (v % 65536) as u16
+}
+
+pub fn short_of(v: u64) -> i16 {
+    numbers::signed16(half_of(v))
+}
+
+pub fn word_of(v: u64) -> i32 {
+    numbers::signed32((v % 4294967296) as u32)
+}
+
+// A number of places, no more than there are.
+pub fn places_of(v: u64, most: usize) -> usize
     ensures { λ r. ⌜ r ≤ most ⌝ }
 {
-    if n < most as u64 { n as usize } else { most }
-}
-
-// A signed number of 32, of 16 or of 8 bits in 64.
-pub fn from_i32(v: i32) -> i64 {
-    v as i64
-}
-
-pub fn from_i16(v: i16) -> i64 {
-    v as i64
-}
-
-pub fn from_i8(v: i8) -> i64 {
-    v as i64
+    if v < most as u64 { v as usize } else { most }
 }

@@ -7,10 +7,13 @@ use Rattle.console.proofs.talk.Statement.{statement}
 use Rattle.console.proofs.talk.Tie as tie
 
 abbrev Inv-loop : tie.InvT-loop
-Inv-loop line₀ bytes₀ out₀ t₀ turns₀ line bytes out t turns = (length line ≡ length line₀) × (length bytes ≡ length bytes₀) × (length out ≡ length out₀)
+Inv-loop line₀ bytes₀ row₀ out₀ t₀ turns₀ line bytes row out t turns = (length line ≡ length line₀) × (length bytes ≡ length bytes₀) × (length row ≡ length row₀) × (length out ≡ length out₀)
 
 abbrev μ-loop : tie.MeasureT-loop
-μ-loop line₀ bytes₀ out₀ t₀ turns₀ line bytes out t turns = turns
+μ-loop line₀ bytes₀ row₀ out₀ t₀ turns₀ line bytes row out t turns = turns
+
+no-job-requires : tie.Need-no-job-requires Inv-loop μ-loop
+no-job-requires c κs = search needs
 
 loop-holds : tie.Need-loop-holds Inv-loop μ-loop
 loop-holds c = search needs
@@ -27,6 +30,9 @@ loop-less c = search needs
 loop-again : tie.Need-loop-again Inv-loop μ-loop
 loop-again c = search needs
 
+start-requires : tie.Need-start-requires Inv-loop μ-loop
+start-requires c κs = search needs
+
 end-line-requires : tie.Need-end-line-requires Inv-loop μ-loop
 end-line-requires c κs = search needs
 
@@ -42,17 +48,23 @@ same-length-2 c = search needs
 same-length-3 : tie.Need-same-length-3 Inv-loop μ-loop
 same-length-3 c = search needs
 
-returns : tie.Need-returns Inv-loop μ-loop
-returns c = search needs
-
 same-length-4 : tie.Need-same-length-4 Inv-loop μ-loop
 same-length-4 c = search needs
+
+returns : tie.Need-returns Inv-loop μ-loop
+returns c = search needs
 
 same-length-5 : tie.Need-same-length-5 Inv-loop μ-loop
 same-length-5 c = search needs
 
 same-length-6 : tie.Need-same-length-6 Inv-loop μ-loop
 same-length-6 c = search needs
+
+same-length-7 : tie.Need-same-length-7 Inv-loop μ-loop
+same-length-7 c = search needs
+
+same-length-8 : tie.Need-same-length-8 Inv-loop μ-loop
+same-length-8 c = search needs
 
 returns-2 : tie.Need-returns-2 Inv-loop μ-loop
 returns-2 c = search needs
@@ -63,18 +75,22 @@ talk-spec =
     (tie.spec
     Inv-loop
     μ-loop
+    no-job-requires
     loop-holds
     read-once-requires
     fewer-requires
     loop-less
     loop-again
+    start-requires
     end-line-requires
     flush-requires
     same-length
     same-length-2
     same-length-3
-    returns
     same-length-4
+    returns
     same-length-5
     same-length-6
+    same-length-7
+    same-length-8
     returns-2)

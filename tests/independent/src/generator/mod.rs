@@ -15,7 +15,7 @@ use random::Random;
 use std::io::{self, Write};
 
 /// The areas taken where none is named. An area is switched on here.
-pub const DEFAULT: &[&str] = &["check", "pf", "tz"];
+pub const DEFAULT: &[&str] = &["check", "pf", "tz", "pace", "old", "restore"];
 
 /// Every area there is.
 const AREAS: &[Area] = &[check::AREA, pathfinder::AREA, tongzhu::AREA, pace::AREA, old58::AREA, restore::AREA];

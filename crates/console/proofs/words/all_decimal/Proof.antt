@@ -12,8 +12,11 @@ Inv-loop s i₀ i = Unit {0}
 abbrev μ-loop : tie.MeasureT-loop
 μ-loop s i₀ i = length s - i
 
+returns : tie.Need-returns Inv-loop μ-loop
+returns c = search needs
+
 loop-holds : tie.Need-loop-holds Inv-loop μ-loop
-loop-holds c = tt
+loop-holds c = search needs
 
 shared-slice-read-digit : tie.Need-shared-slice-read-digit Inv-loop μ-loop
 shared-slice-read-digit c = search needs
@@ -21,8 +24,8 @@ shared-slice-read-digit c = search needs
 digit-requires : tie.Need-digit-requires Inv-loop μ-loop
 digit-requires c κs = search needs
 
-returns : tie.Need-returns Inv-loop μ-loop
-returns c = tt
+returns-2 : tie.Need-returns-2 Inv-loop μ-loop
+returns-2 c = search needs
 
 add-i : tie.Need-add-i Inv-loop μ-loop
 add-i c = search needs
@@ -31,10 +34,10 @@ loop-less : tie.Need-loop-less Inv-loop μ-loop
 loop-less c = search needs
 
 loop-again : tie.Need-loop-again Inv-loop μ-loop
-loop-again c = tt
+loop-again c = search needs
 
-returns-2 : tie.Need-returns-2 Inv-loop μ-loop
-returns-2 c = tt
+returns-3 : tie.Need-returns-3 Inv-loop μ-loop
+returns-3 c = search needs
 
 pub all-decimal-spec : {M : Type 1} → statement M
 all-decimal-spec =
@@ -42,11 +45,12 @@ all-decimal-spec =
     (tie.spec
     Inv-loop
     μ-loop
+    returns
     loop-holds
     shared-slice-read-digit
     digit-requires
-    returns
+    returns-2
     add-i
     loop-less
     loop-again
-    returns-2)
+    returns-3)

@@ -1,12 +1,13 @@
--- `console::words::word` is safe and ends: the measure is the number of words still to pass.
+-- `console::words::word` is safe and ends: the measure is the number of words still to pass, and its start stays within the line.
 -- Assumes nothing.
-use native.Mathlib.Omega.{arith}
+use Prim.Native.Nat.{_≤_}
+use lib.ListN.{length}
 use borrow.Author.Needs.{needs}
 use Rattle.console.proofs.words.word.Statement.{statement}
 use Rattle.console.proofs.words.word.Tie as tie
 
 abbrev Inv-loop : tie.InvT-loop
-Inv-loop line number start₀ left₀ start left = Unit {0}
+Inv-loop line number start₀ left₀ start left = start ≤ length line
 
 abbrev μ-loop : tie.MeasureT-loop
 μ-loop line number start₀ left₀ start left = left
@@ -15,10 +16,10 @@ spaces-requires : tie.Need-spaces-requires Inv-loop μ-loop
 spaces-requires c κs = search needs
 
 loop-holds : tie.Need-loop-holds Inv-loop μ-loop
-loop-holds c = tt
+loop-holds c = search needs
 
-letters-requires : tie.Need-letters-requires Inv-loop μ-loop
-letters-requires c κs = search needs
+until-requires : tie.Need-until-requires Inv-loop μ-loop
+until-requires c κs = search needs
 
 spaces-requires-2 : tie.Need-spaces-requires-2 Inv-loop μ-loop
 spaces-requires-2 c κs = search needs
@@ -30,13 +31,19 @@ loop-less : tie.Need-loop-less Inv-loop μ-loop
 loop-less c = search needs
 
 loop-again : tie.Need-loop-again Inv-loop μ-loop
-loop-again c = tt
+loop-again c = search needs
 
-letters-requires-2 : tie.Need-letters-requires-2 Inv-loop μ-loop
-letters-requires-2 c κs = search needs
+until-requires-2 : tie.Need-until-requires-2 Inv-loop μ-loop
+until-requires-2 c κs = search needs
 
-part-requires : tie.Need-part-requires Inv-loop μ-loop
-part-requires c κs = search needs
+sub-result : tie.Need-sub-result Inv-loop μ-loop
+sub-result c = search needs
+
+part-result-start : tie.Need-part-result-start Inv-loop μ-loop
+part-result-start c = search needs
+
+part-result-end : tie.Need-part-result-end Inv-loop μ-loop
+part-result-end c = search needs
 
 returns : tie.Need-returns Inv-loop μ-loop
 returns c = search needs
@@ -49,11 +56,13 @@ word-spec =
     μ-loop
     spaces-requires
     loop-holds
-    letters-requires
+    until-requires
     spaces-requires-2
     sub-left
     loop-less
     loop-again
-    letters-requires-2
-    part-requires
+    until-requires-2
+    sub-result
+    part-result-start
+    part-result-end
     returns)
