@@ -1,0 +1,30 @@
+-- The worked examples hold of the definitions: antt computes each of them, with the definitions named below unfolded.
+-- Assumes nothing.
+use mathlib.Core.Path.{_≡_, refl}
+use mathlib.Core.Bool.{true}
+use Rattle.checks.specs.Crc.{shift, shifts, crcFrom, crcOf}
+use Rattle.checks.specs.Sums.{total}
+use Rattle.digits.specs.Lengths.{wordOf}
+use Rattle.calendar.specs.Decimal.{bcdByte}
+use Rattle.calendar.specs.Dates.{leap, days, daysIn, realDate, realTime}
+use Rattle.frames_tongzhu.specs.Functions.{kindOf}
+use Rattle.frames_tongzhu.specs.Writing.{frameBytes}
+use Rattle.requests_tongzhu.specs.Requests.{wireOf}
+use Rattle.characters_pace.specs.Characters.{allOf, halves, firsts}
+use Rattle.rows_pace.specs.Rows.{rowOf}
+use Rattle.rows_pace.specs.Info.{payload}
+use Rattle.settings_pace.specs.Reading.{shaped, amountOf, replyOf}
+use Rattle.analog_pace.specs.Analog.{tenthsOf}
+use Rattle.old58.specs.Record.{twoAt, currentOf, currentAt}
+use Rattle.restore_order.specs.Slots.{writes}
+use Rattle.worked.specs.Examples.{alike, every, worked}
+
+pub worked-examples-hold : every worked ≡ true
+unfolding
+    shift shifts crcFrom crcOf total wordOf
+    bcdByte leap days daysIn realDate realTime kindOf frameBytes wireOf
+    allOf halves firsts rowOf payload shaped amountOf replyOf tenthsOf
+    twoAt currentOf currentAt
+    writes
+    alike every worked
+worked-examples-hold = refl
