@@ -1,49 +1,24 @@
 // The lines that begin with `check`: checksum and closing sums of a byte string.
 use crate::text;
 use crate::words;
-use crate::words::Verdict;
-
-// The three calls.
-enum Call {
-    Crc,
-    Sum8,
-    Sum16,
-    None,
-}
+use crate::words::Call;
 
 pub fn answer(line: &[u8], bytes: &mut [u8], out: &mut [u8], at: usize) -> usize {
-    let name = words::word(line, 1);
-    let call = call_of(name);
-    if let Call::None = call {
-        return text::put_fault(out, at, words::unlisted(name));
-    }
     let mut v = [0u64; 8];
-    if let Verdict::Faulty(f) = words::parameters(line, b"h", bytes, &mut v) {
-        return text::put_fault(out, at, f);
-    }
-    let n = text::places_of(v[0], bytes.len());
-    checked(call, &bytes[0..n], out, at)
-}
-
-fn call_of(w: &[u8]) -> Call {
-    if check::same(w, b"crc") {
-        return Call::Crc;
-    }
-    if check::same(w, b"sum8") {
-        return Call::Sum8;
-    }
-    if check::same(w, b"sum16") {
-        return Call::Sum16;
-    }
-    Call::None
-}
-
-fn checked(call: Call, s: &[u8], out: &mut [u8], at: usize) -> usize {
+    let call = words::call_of(line, b"crc sum8 sum16", 0, b"", b"h h h", bytes, &mut v);
     match call {
-        Call::Crc => put_sum(out, at, b"ok crc %%\n", checks::crc16(s)),
-        Call::Sum8 => put_sum(out, at, b"ok sum8 %\n", checks::close256(s) as u16 * 256),
-        Call::Sum16 => put_sum(out, at, b"ok sum16 %%\n", checks::close65536(s)),
-        Call::None => at,
+        Call::Number(k) => checked(k, bytes, v[0], out, at),
+        Call::Faulty(f) => text::put_fault(out, at, f),
+    }
+}
+
+fn checked(k: usize, bytes: &[u8], len: u64, out: &mut [u8], at: usize) -> usize {
+    let n = text::places_of(len, bytes.len());
+    let s = &bytes[0..n];
+    match k {
+        0 => put_sum(out, at, b"ok crc %%\n", checks::crc16(s)),
+        1 => put_sum(out, at, b"ok sum8 %\n", checks::close256(s) as u16 * 256),
+        _ => put_sum(out, at, b"ok sum16 %%\n", checks::close65536(s)),
     }
 }
 

@@ -206,22 +206,15 @@ fn device(
     if first[0] == b'#' {
         return at;
     }
-    if check::same(first, b"check") {
-        return check_lines::answer(line, bytes, out, at);
+    let number = words::index(b"pf tz pace old check", first);
+    match number {
+        0 => pf_lines::answer(line, bytes, row, out, at),
+        1 => tz_lines::answer(line, bytes, out, at),
+        2 => pace_lines::answer(line, bytes, out, at),
+        3 => old_lines::answer(line, bytes, out, at),
+        4 => check_lines::answer(line, bytes, out, at),
+        _ => text::put_fault(out, at, Fault::UnknownWord),
     }
-    if check::same(first, b"pf") {
-        return pf_lines::answer(line, bytes, row, out, at);
-    }
-    if check::same(first, b"tz") {
-        return tz_lines::answer(line, bytes, out, at);
-    }
-    if check::same(first, b"pace") {
-        return pace_lines::answer(line, bytes, out, at);
-    }
-    if check::same(first, b"old") {
-        return old_lines::answer(line, bytes, out, at);
-    }
-    text::put_fault(out, at, Fault::UnknownWord)
 }
 
 // Writes the answers where half of the room is used.

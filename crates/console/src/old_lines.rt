@@ -1,7 +1,7 @@
 // The lines that begin with `old`: records of the 58-byte monitor.
 use crate::text;
 use crate::words;
-use crate::words::Verdict;
+use crate::words::Call;
 use old58::Cell;
 use old58::Current;
 use old58::Energy;
@@ -12,14 +12,15 @@ use old58::Record;
 use old58::Setup;
 
 pub fn answer(line: &[u8], bytes: &mut [u8], out: &mut [u8], at: usize) -> usize {
-    let call = words::word(line, 1);
-    if !check::same(call, b"read") {
-        return text::put_fault(out, at, words::unlisted(call));
-    }
     let mut v = [0u64; 8];
-    if let Verdict::Faulty(f) = words::parameters(line, b"h", bytes, &mut v) {
-        return text::put_fault(out, at, f);
+    let call = words::call_of(line, b"read", 0, b"", b"h", bytes, &mut v);
+    match call {
+        Call::Number(_) => read(v, bytes, out, at),
+        Call::Faulty(f) => text::put_fault(out, at, f),
     }
+}
+
+fn read(v: [u64; 8], bytes: &[u8], out: &mut [u8], at: usize) -> usize {
     let n = text::places_of(v[0], bytes.len());
     let reading = old58::read_record(&bytes[0..n]);
     match reading {

@@ -1,7 +1,7 @@
 // The lines that begin with `pace`: PACE replies and requests, frames as the hex of their characters.
 use crate::text;
 use crate::words;
-use crate::words::Verdict;
+use crate::words::Call;
 use analog_pace::Analog;
 use frames_pace::Written;
 use records_pace::Answer;
@@ -12,47 +12,70 @@ use rows_pace::Values;
 use warnings_pace::Warnings;
 
 pub fn answer(line: &[u8], bytes: &mut [u8], out: &mut [u8], at: usize) -> usize {
-    let call = words::word(line, 1);
-    if check::same(call, b"read") {
-        return read(line, bytes, out, at);
-    }
-    if check::same(call, b"parse") {
-        return parse(line, bytes, out, at);
-    }
-    if check::same(call, b"write") {
-        return write(line, bytes, out, at);
-    }
-    text::put_fault(out, at, words::unlisted(call))
-}
-
-fn read(line: &[u8], bytes: &mut [u8], out: &mut [u8], at: usize) -> usize {
     let mut v = [0u64; 8];
-    if let Verdict::Faulty(f) = words::parameters(line, b"ooh", bytes, &mut v) {
-        return text::put_fault(out, at, f);
+    let call = words::call_of(
+        line,
+        b"read parse write",
+        4,
+        b"ask cell_overvoltage slow_discharge",
+        b"ooh h ro.o ro.dddc ro.ddc",
+        bytes,
+        &mut v,
+    );
+    match call {
+        Call::Number(k) => act(k, v, bytes, out, at),
+        Call::Faulty(f) => text::put_fault(out, at, f),
     }
-    let n = text::places_of(v[2], bytes.len());
-    let reply = records_pace::read_reply(text::byte_of(v[0]), text::byte_of(v[1]), &bytes[0..n]);
-    put_reply(out, at, reply)
 }
 
+fn act(k: usize, v: [u64; 8], bytes: &mut [u8], out: &mut [u8], at: usize) -> usize {
+    match k {
+        0 => read(v, bytes, out, at),
+        1 => parse(v, bytes, out, at),
+        _ => write(request_of(k, v), v[0], bytes, out, at),
+    }
+}
+
+fn read(v: [u64; 8], bytes: &[u8], out: &mut [u8], at: usize) -> usize {
+    let n = text::places_of(v[2], bytes.len());
+    put_reply(
+        out,
+        at,
+        records_pace::read_reply(text::byte_of(v[0]), text::byte_of(v[1]), &bytes[0..n]),
+    )
+}
+
+// The answers that have rows, and the others.
 fn put_reply(out: &mut [u8], at: usize, reply: Reply) -> usize {
     let answer = reply.answer;
-    let cells = reply.cells;
-    let temperatures = reply.temperatures;
-    let cell_warnings = reply.cell_warnings;
-    let temperature_warnings = reply.temperature_warnings;
-    let string = reply.text;
     match answer {
-        Answer::Analog(a) => put_analog(out, at, a, &cells, &temperatures),
-        Answer::Warnings(w) => put_warnings(out, at, w, &cell_warnings, &temperature_warnings),
+        Answer::Analog(a) => {
+            let cells = reply.cells;
+            let temperatures = reply.temperatures;
+            put_analog(out, at, a, &cells, &temperatures)
+        }
+        Answer::Warnings(w) => {
+            let cells = reply.cell_warnings;
+            let temperatures = reply.temperature_warnings;
+            put_warnings(out, at, w, &cells, &temperatures)
+        }
+        _ => {
+            let string = reply.text;
+            put_short(out, at, answer, string)
+        }
+    }
+}
+
+fn put_short(out: &mut [u8], at: usize, answer: Answer, string: [u8; 40]) -> usize {
+    match answer {
         Answer::Hardware => text::put_bytes(out, at, b"ok hardware ", &string, 20),
         Answer::Serial(n) => text::put_bytes(out, at, b"ok serial ", &string, n as usize),
         Answer::Setting(values) => put_setting(out, at, values),
-        Answer::Accepted => text::put_all(out, at, b"ok accepted\n"),
         Answer::DeviceFailure(code) => {
             text::put_with(out, at, b"ok failure %\n", text::from_u8(code))
         }
         Answer::Refused(r) => text::put_refused(out, at, r),
+        _ => text::put_all(out, at, b"ok accepted\n"),
     }
 }
 
@@ -161,11 +184,7 @@ fn put_setting(out: &mut [u8], at: usize, values: Values) -> usize {
     }
 }
 
-fn parse(line: &[u8], bytes: &mut [u8], out: &mut [u8], at: usize) -> usize {
-    let mut v = [0u64; 8];
-    if let Verdict::Faulty(f) = words::parameters(line, b"h", bytes, &mut v) {
-        return text::put_fault(out, at, f);
-    }
+fn parse(v: [u64; 8], bytes: &[u8], out: &mut [u8], at: usize) -> usize {
     let n = text::places_of(v[0], bytes.len());
     let parsed = requests_pace::read_request(&bytes[0..n]);
     match parsed {
@@ -217,66 +236,43 @@ fn put_values(out: &mut [u8], at: usize, address: u8, values: Values) -> usize {
     }
 }
 
-fn write(line: &[u8], bytes: &mut [u8], out: &mut [u8], at: usize) -> usize {
-    let call = words::word(line, 4);
-    if check::same(call, b"ask") {
-        return write_ask(line, bytes, out, at);
-    }
-    if check::same(call, b"cell_overvoltage") {
-        return write_overvoltage(line, bytes, out, at);
-    }
-    if check::same(call, b"slow_discharge") {
-        return write_discharge(line, bytes, out, at);
-    }
-    text::put_fault(out, at, words::unlisted(call))
-}
-
-fn write_ask(line: &[u8], bytes: &mut [u8], out: &mut [u8], at: usize) -> usize {
-    let mut v = [0u64; 8];
-    if let Verdict::Faulty(f) = words::parameters(line, b"ro.o", bytes, &mut v) {
-        return text::put_fault(out, at, f);
-    }
-    let q = Request::Ask {
-        address: text::byte_of(v[1]),
-        command: text::byte_of(v[3]),
-    };
-    write_into(q, v[0], bytes, out, at)
-}
-
-fn write_overvoltage(line: &[u8], bytes: &mut [u8], out: &mut [u8], at: usize) -> usize {
-    let mut v = [0u64; 8];
-    if let Verdict::Faulty(f) = words::parameters(line, b"ro.dddc", bytes, &mut v) {
-        return text::put_fault(out, at, f);
-    }
-    let q = Request::Set {
-        address: text::byte_of(v[1]),
-        values: Values::CellOvervoltage {
-            alarm_mv: text::half_of(v[3]),
-            protect_mv: text::half_of(v[4]),
-            release_mv: text::half_of(v[5]),
-            delay_100ms: text::byte_of(v[6]),
+// The request of a line, by its form.
+fn request_of(k: usize, v: [u64; 8]) -> Request {
+    let address = text::byte_of(v[1]);
+    match k {
+        2 => Request::Ask {
+            address,
+            command: text::byte_of(v[3]),
         },
-    };
-    write_into(q, v[0], bytes, out, at)
-}
-
-fn write_discharge(line: &[u8], bytes: &mut [u8], out: &mut [u8], at: usize) -> usize {
-    let mut v = [0u64; 8];
-    if let Verdict::Faulty(f) = words::parameters(line, b"ro.ddc", bytes, &mut v) {
-        return text::put_fault(out, at, f);
-    }
-    let q = Request::Set {
-        address: text::byte_of(v[1]),
-        values: Values::SlowDischarge {
-            alarm_a: text::half_of(v[3]),
-            protect_a: text::half_of(v[4]),
-            delay_100ms: text::byte_of(v[5]),
+        3 => Request::Set {
+            address,
+            values: overvoltage_of(v),
         },
-    };
-    write_into(q, v[0], bytes, out, at)
+        _ => Request::Set {
+            address,
+            values: discharge_of(v),
+        },
+    }
 }
 
-fn write_into(q: Request, room: u64, bytes: &mut [u8], out: &mut [u8], at: usize) -> usize {
+fn overvoltage_of(v: [u64; 8]) -> Values {
+    Values::CellOvervoltage {
+        alarm_mv: text::half_of(v[3]),
+        protect_mv: text::half_of(v[4]),
+        release_mv: text::half_of(v[5]),
+        delay_100ms: text::byte_of(v[6]),
+    }
+}
+
+fn discharge_of(v: [u64; 8]) -> Values {
+    Values::SlowDischarge {
+        alarm_a: text::half_of(v[3]),
+        protect_a: text::half_of(v[4]),
+        delay_100ms: text::byte_of(v[5]),
+    }
+}
+
+fn write(q: Request, room: u64, bytes: &mut [u8], out: &mut [u8], at: usize) -> usize {
     let places = text::places_of(room, bytes.len());
     let answer = requests_pace::write_request(q, &mut bytes[0..places]);
     match answer {

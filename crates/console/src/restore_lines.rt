@@ -1,8 +1,8 @@
 // The lines that begin with `restore`: the one job that lives on from line to line.
 use crate::text;
 use crate::words;
+use crate::words::Call;
 use crate::words::Fault;
-use crate::words::Verdict;
 use restore_pathfinder::Answer;
 use restore_pathfinder::Job;
 use restore_pathfinder::Opening;
@@ -49,20 +49,26 @@ pub fn answer(
     at: usize,
     kept: Kept,
 ) -> Said {
-    let call = words::word(line, 1);
-    if check::same(call, b"open") {
-        return open(line, row, out, at, kept);
+    let mut v = [0u64; 8];
+    let call = words::call_of(
+        line,
+        b"open next reply left",
+        0,
+        b"",
+        b"ll r h -",
+        bytes,
+        &mut v,
+    );
+    match call {
+        Call::Number(k) => {
+            if k == 0 {
+                open(line, row, out, at, kept)
+            } else {
+                go_on(k, v[0], bytes, out, at, kept)
+            }
+        }
+        Call::Faulty(f) => faulty(out, at, f, kept),
     }
-    if check::same(call, b"next") {
-        return next(line, bytes, out, at, kept);
-    }
-    if check::same(call, b"reply") {
-        return reply(line, bytes, out, at, kept);
-    }
-    if check::same(call, b"left") {
-        return left(line, bytes, out, at, kept);
-    }
-    faulty(out, at, words::unlisted(call), kept)
 }
 
 // A line that is no call, and changes nothing.
@@ -76,12 +82,6 @@ fn faulty(out: &mut [u8], at: usize, fault: Fault, kept: Kept) -> Said {
 // ---- open
 
 fn open(line: &[u8], row: &mut [i32], out: &mut [u8], at: usize, kept: Kept) -> Said {
-    if !words::has(line, 3) {
-        return faulty(out, at, Fault::TooFewWords, kept);
-    }
-    if words::has(line, 4) {
-        return faulty(out, at, Fault::TooManyWords, kept);
-    }
     let present = list(words::word(line, 2), row, 0);
     match present {
         Numbers::Upto(n) => open_from(line, row, n, out, at, kept),
@@ -171,20 +171,48 @@ fn store(row: &mut [i32], place: usize, v: i32) -> usize {
 
 // ---- next, reply, left
 
-fn next(line: &[u8], bytes: &mut [u8], out: &mut [u8], at: usize, kept: Kept) -> Said {
-    let mut v = [0u64; 8];
-    if let Verdict::Faulty(f) = words::parameters(line, b"r", bytes, &mut v) {
-        return faulty(out, at, f, kept);
-    }
+fn go_on(
+    k: usize,
+    parameter: u64,
+    bytes: &mut [u8],
+    out: &mut [u8],
+    at: usize,
+    kept: Kept,
+) -> Said {
     if !kept.opened {
         return faulty(out, at, Fault::NoJob, kept);
     }
-    let places = text::places_of(v[0], bytes.len());
-    let stepped = restore_pathfinder::next(kept.job, &mut bytes[0..places]);
+    let job = kept.job;
+    let n = text::places_of(parameter, bytes.len());
+    match k {
+        1 => next(job, n, bytes, out, at),
+        2 => reply(job, n, bytes, out, at),
+        _ => Said {
+            at: text::put_with(
+                out,
+                at,
+                b"ok left #\n",
+                text::from_usize(restore_pathfinder::left(job)),
+            ),
+            kept,
+        },
+    }
+}
+
+fn next(job: Job, places: usize, bytes: &mut [u8], out: &mut [u8], at: usize) -> Said {
+    if bytes.len() < places {
+        return held(at, job);
+    }
+    let stepped = restore_pathfinder::next(job, &mut bytes[0..places]);
     let step = stepped.step;
-    let job = stepped.job;
+    let end = put_step(out, at, bytes, step);
+    held(end, stepped.job)
+}
+
+// The place after an answer, with a job that was opened.
+fn held(at: usize, job: Job) -> Said {
     Said {
-        at: put_step(out, at, bytes, step),
+        at,
         kept: Kept { opened: true, job },
     }
 }
@@ -197,22 +225,14 @@ fn put_step(out: &mut [u8], at: usize, bytes: &[u8], step: Step) -> usize {
     }
 }
 
-fn reply(line: &[u8], bytes: &mut [u8], out: &mut [u8], at: usize, kept: Kept) -> Said {
-    let mut v = [0u64; 8];
-    if let Verdict::Faulty(f) = words::parameters(line, b"h", bytes, &mut v) {
-        return faulty(out, at, f, kept);
+fn reply(job: Job, n: usize, bytes: &[u8], out: &mut [u8], at: usize) -> Said {
+    if bytes.len() < n {
+        return held(at, job);
     }
-    if !kept.opened {
-        return faulty(out, at, Fault::NoJob, kept);
-    }
-    let n = text::places_of(v[0], bytes.len());
-    let heard = restore_pathfinder::reply(kept.job, &bytes[0..n]);
+    let heard = restore_pathfinder::reply(job, &bytes[0..n]);
     let answer = heard.answer;
-    let job = heard.job;
-    Said {
-        at: put_answer(out, at, answer),
-        kept: Kept { opened: true, job },
-    }
+    let end = put_answer(out, at, answer);
+    held(end, heard.job)
 }
 
 fn put_answer(out: &mut [u8], at: usize, answer: Answer) -> usize {
@@ -226,20 +246,5 @@ fn put_outcome(out: &mut [u8], at: usize, outcome: Outcome) -> usize {
     match outcome {
         Outcome::Written => text::put_all(out, at, b"ok written\n"),
         Outcome::Failure(code) => text::put_with(out, at, b"ok failure %\n", text::from_u8(code)),
-    }
-}
-
-fn left(line: &[u8], bytes: &mut [u8], out: &mut [u8], at: usize, kept: Kept) -> Said {
-    let mut v = [0u64; 8];
-    if let Verdict::Faulty(f) = words::parameters(line, b"", bytes, &mut v) {
-        return faulty(out, at, f, kept);
-    }
-    if !kept.opened {
-        return faulty(out, at, Fault::NoJob, kept);
-    }
-    let n = restore_pathfinder::left(kept.job);
-    Said {
-        at: text::put_with(out, at, b"ok left #\n", text::from_usize(n)),
-        kept,
     }
 }

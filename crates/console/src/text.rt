@@ -1,6 +1,7 @@
 // Writing an answer into the room lent for it. Each function takes the place to write at and answers the place after what it wrote;
 // what does not fit is left out, and the room is larger than any answer.
 ghost use Prim.Native.Nat.{_≤_};
+use crate::words;
 use crate::words::Fault;
 use refusals::Refusal;
 
@@ -194,16 +195,31 @@ pub fn put_refused(out: &mut [u8], at: usize, r: Refusal) -> usize {
 
 // What a line that is no call answers.
 pub fn put_fault(out: &mut [u8], at: usize, fault: Fault) -> usize {
+    put_nth(
+        out,
+        at,
+        b"? line too long|? unknown word|? too few words|? too many words|? not hex|? not a number|? number out of range|? no job",
+        number_of(fault),
+    )
+}
+
+fn number_of(fault: Fault) -> usize {
     match fault {
-        Fault::LineTooLong => put_all(out, at, b"? line too long\n"),
-        Fault::UnknownWord => put_all(out, at, b"? unknown word\n"),
-        Fault::TooFewWords => put_all(out, at, b"? too few words\n"),
-        Fault::TooManyWords => put_all(out, at, b"? too many words\n"),
-        Fault::NotHex => put_all(out, at, b"? not hex\n"),
-        Fault::NotANumber => put_all(out, at, b"? not a number\n"),
-        Fault::OutOfRange => put_all(out, at, b"? number out of range\n"),
-        Fault::NoJob => put_all(out, at, b"? no job\n"),
+        Fault::LineTooLong => 0,
+        Fault::UnknownWord => 1,
+        Fault::TooFewWords => 2,
+        Fault::TooManyWords => 3,
+        Fault::NotHex => 4,
+        Fault::NotANumber => 5,
+        Fault::OutOfRange => 6,
+        Fault::NoJob => 7,
     }
+}
+
+// The line with this number of those that are parted by bars.
+pub fn put_nth(out: &mut [u8], at: usize, texts: &[u8], number: usize) -> usize {
+    let end = put_all(out, at, words::piece(texts, number, b'|'));
+    put(out, end, b'\n')
 }
 
 // ---- values of other types

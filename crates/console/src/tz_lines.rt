@@ -1,38 +1,54 @@
 // The lines that begin with `tz`: Tongzhu replies and requests.
 use crate::text;
 use crate::words;
-use crate::words::Verdict;
+use crate::words::Call;
 use monitor3_tongzhu::Lists;
 use monitor3_tongzhu::Monitor3;
 use monitor3_tongzhu::Status;
 use records_tongzhu::Answer;
 use records_tongzhu::Monitor2;
+use records_tongzhu::Reply;
 use requests_tongzhu::Parsed;
 use requests_tongzhu::Request;
 use requests_tongzhu::Time;
 use requests_tongzhu::Written;
 
 pub fn answer(line: &[u8], bytes: &mut [u8], out: &mut [u8], at: usize) -> usize {
-    let call = words::word(line, 1);
-    if check::same(call, b"read") {
-        return read(line, bytes, out, at);
+    let mut v = [0u64; 8];
+    let call = words::call_of(
+        line,
+        b"read parse write",
+        3,
+        b"ask set_time",
+        b"oh h r.o r.cccccc",
+        bytes,
+        &mut v,
+    );
+    match call {
+        Call::Number(k) => act(k, v, bytes, out, at),
+        Call::Faulty(f) => text::put_fault(out, at, f),
     }
-    if check::same(call, b"parse") {
-        return parse(line, bytes, out, at);
-    }
-    if check::same(call, b"write") {
-        return write(line, bytes, out, at);
-    }
-    text::put_fault(out, at, words::unlisted(call))
 }
 
-fn read(line: &[u8], bytes: &mut [u8], out: &mut [u8], at: usize) -> usize {
-    let mut v = [0u64; 8];
-    if let Verdict::Faulty(f) = words::parameters(line, b"oh", bytes, &mut v) {
-        return text::put_fault(out, at, f);
+fn act(k: usize, v: [u64; 8], bytes: &mut [u8], out: &mut [u8], at: usize) -> usize {
+    match k {
+        0 => read(v, bytes, out, at),
+        1 => parse(v, bytes, out, at),
+        2 => write(Request::Ask(text::byte_of(v[2])), v[0], bytes, out, at),
+        _ => write(Request::SetTime(time_of(v)), v[0], bytes, out, at),
     }
+}
+
+fn read(v: [u64; 8], bytes: &[u8], out: &mut [u8], at: usize) -> usize {
     let n = text::places_of(v[1], bytes.len());
-    let reply = records_tongzhu::read_reply(text::byte_of(v[0]), &bytes[0..n]);
+    put_reply(
+        out,
+        at,
+        records_tongzhu::read_reply(text::byte_of(v[0]), &bytes[0..n]),
+    )
+}
+
+fn put_reply(out: &mut [u8], at: usize, reply: Reply) -> usize {
     let answer = reply.answer;
     let lists = reply.lists;
     match answer {
@@ -40,10 +56,21 @@ fn read(line: &[u8], bytes: &mut [u8], out: &mut [u8], at: usize) -> usize {
         Answer::Monitor3(m) => put_monitor3(out, at, m, lists),
         Answer::Status(s) => put_status(out, at, s),
         Answer::Current(i) => text::put_with(out, at, b"ok current_100ma #\n", text::from_i16(i)),
-        Answer::Done => text::put_all(out, at, b"ok done\n"),
-        Answer::NotDone => text::put_all(out, at, b"ok not_done\n"),
-        Answer::DeviceError => text::put_all(out, at, b"ok device_error\n"),
         Answer::Refused(r) => text::put_refused(out, at, r),
+        _ => text::put_nth(
+            out,
+            at,
+            b"ok done|ok not_done|ok device_error",
+            number_of(answer),
+        ),
+    }
+}
+
+fn number_of(answer: Answer) -> usize {
+    match answer {
+        Answer::Done => 0,
+        Answer::NotDone => 1,
+        _ => 2,
     }
 }
 
@@ -142,11 +169,7 @@ fn put_sensors(out: &mut [u8], from: usize, form: &[u8], sensors: [i8; 16], n: u
     text::put_i8s(out, at, &sensors, n as usize)
 }
 
-fn parse(line: &[u8], bytes: &mut [u8], out: &mut [u8], at: usize) -> usize {
-    let mut v = [0u64; 8];
-    if let Verdict::Faulty(f) = words::parameters(line, b"h", bytes, &mut v) {
-        return text::put_fault(out, at, f);
-    }
+fn parse(v: [u64; 8], bytes: &[u8], out: &mut [u8], at: usize) -> usize {
     let n = text::places_of(v[0], bytes.len());
     let parsed = requests_tongzhu::read_request(&bytes[0..n]);
     match parsed {
@@ -172,33 +195,18 @@ fn put_request(out: &mut [u8], at: usize, q: Request) -> usize {
     }
 }
 
-fn write(line: &[u8], bytes: &mut [u8], out: &mut [u8], at: usize) -> usize {
-    let call = words::word(line, 3);
-    let mut v = [0u64; 8];
-    if check::same(call, b"ask") {
-        if let Verdict::Faulty(f) = words::parameters(line, b"r.o", bytes, &mut v) {
-            return text::put_fault(out, at, f);
-        }
-        return write_into(Request::Ask(text::byte_of(v[2])), v[0], bytes, out, at);
+fn time_of(v: [u64; 8]) -> Time {
+    Time {
+        year: text::byte_of(v[2]),
+        month: text::byte_of(v[3]),
+        day: text::byte_of(v[4]),
+        hour: text::byte_of(v[5]),
+        minute: text::byte_of(v[6]),
+        second: text::byte_of(v[7]),
     }
-    if check::same(call, b"set_time") {
-        if let Verdict::Faulty(f) = words::parameters(line, b"r.cccccc", bytes, &mut v) {
-            return text::put_fault(out, at, f);
-        }
-        let t = Time {
-            year: text::byte_of(v[2]),
-            month: text::byte_of(v[3]),
-            day: text::byte_of(v[4]),
-            hour: text::byte_of(v[5]),
-            minute: text::byte_of(v[6]),
-            second: text::byte_of(v[7]),
-        };
-        return write_into(Request::SetTime(t), v[0], bytes, out, at);
-    }
-    text::put_fault(out, at, words::unlisted(call))
 }
 
-fn write_into(q: Request, room: u64, bytes: &mut [u8], out: &mut [u8], at: usize) -> usize {
+fn write(q: Request, room: u64, bytes: &mut [u8], out: &mut [u8], at: usize) -> usize {
     let places = text::places_of(room, bytes.len());
     let answer = requests_tongzhu::write_request(q, &mut bytes[0..places]);
     match answer {

@@ -15,9 +15,9 @@ pub enum Fault {
     NoJob,
 }
 
-// Whether the parameters of a line are all right.
-pub enum Verdict {
-    Fine,
+// Which call a line is, by its place in the list of names; or why it is none.
+pub enum Call {
+    Number(usize),
     Faulty(Fault),
 }
 
@@ -27,30 +27,111 @@ enum Parameter {
     Faulty(Fault),
 }
 
-// The parameters of a line, which are its words from the third on, in the order of their kinds: `o` a byte of two hex digits, `h` a
-// byte string, `r` a number of places, `c` a number of 8 bits, `d` of 16 bits, `s` of 16 bits signed, `w` of 32 bits signed, and `.` a
-// word that has chosen the call. A line has at most eight.
-pub fn parameters(line: &[u8], kinds: &[u8], bytes: &mut [u8], values: &mut [u64; 8]) -> Verdict {
+// Which of these calls a line is, with the values of its parameters. The second word is one of `names`. Where there are `forms`, the
+// last name goes with one of them, at this place of the line, and the calls are counted on. `kinds` has a word for each call: what its
+// parameters are, which are the line's words from the third on, at most eight. A letter stands for one: `o` a byte of two hex digits, `h` a byte string,
+// `r` a number of places, `c` a number of 8 bits, `d` of 16 bits, `s` of 16 bits signed, `w` of 32 bits signed, `l` a list, which is left
+// to the call, and `.` the form. `-` is a call without parameters.
+pub fn call_of(
+    line: &[u8],
+    names: &[u8],
+    place: usize,
+    forms: &[u8],
+    kinds: &[u8],
+    bytes: &mut [u8],
+    values: &mut [u64; 8],
+) -> Call {
+    let chosen = choose(line, names, place, forms);
+    let Call::Number(k) = chosen else {
+        return chosen;
+    };
+    let own = word(kinds, k);
+    if check::same(own, b"-") {
+        return parameters(k, line, &own[0..0], bytes, values);
+    }
+    parameters(k, line, own, bytes, values)
+}
+
+fn choose(line: &[u8], names: &[u8], place: usize, forms: &[u8]) -> Call {
+    let first = index(names, word(line, 1));
+    if first == NONE {
+        return unlisted(word(line, 1));
+    }
+    if forms.len() == 0 {
+        return Call::Number(first);
+    }
+    if has(names, first + 1) {
+        return Call::Number(first);
+    }
+    choose_form(first, word(line, place), forms)
+}
+
+fn choose_form(first: usize, w: &[u8], forms: &[u8]) -> Call
+    requires { ⌜ first ≤ 8 ⌝ }
+{
+    let second = index(forms, w);
+    if second == NONE {
+        return unlisted(w);
+    }
+    Call::Number(first + second)
+}
+
+// What a line is whose choosing word is this one, and none that is listed.
+fn unlisted(w: &[u8]) -> Call {
+    if w.len() == 0 {
+        return Call::Faulty(Fault::TooFewWords);
+    }
+    Call::Faulty(Fault::UnknownWord)
+}
+
+// The place of no word in a list.
+pub const NONE: usize = 8;
+
+// The place of a word in a list of at most eight words, or NONE.
+pub fn index(names: &[u8], w: &[u8]) -> usize
+    ensures { λ r. ⌜ r ≤ 8 ⌝ }
+{
+    if w.len() == 0 {
+        return NONE;
+    }
+    let mut i = 0;
+    while i < NONE {
+        if check::same(word(names, i), w) {
+            return i;
+        }
+        i += 1;
+    }
+    NONE
+}
+
+// The call k, once the line has its parameters, each as it should be.
+fn parameters(
+    k: usize,
+    line: &[u8],
+    kinds: &[u8],
+    bytes: &mut [u8],
+    values: &mut [u64; 8],
+) -> Call {
     let n = kinds.len();
     if 8 < n {
-        return Verdict::Faulty(Fault::TooManyWords);
+        return Call::Faulty(Fault::TooManyWords);
     }
     if !has(line, n + 1) {
-        return Verdict::Faulty(Fault::TooFewWords);
+        return Call::Faulty(Fault::TooFewWords);
     }
     if has(line, n + 2) {
-        return Verdict::Faulty(Fault::TooManyWords);
+        return Call::Faulty(Fault::TooManyWords);
     }
     let mut i = 0;
     while i < n {
         let p = one_parameter(word(line, i + 2), kinds[i], bytes);
         match p {
             Parameter::Is(v) => values[i] = v,
-            Parameter::Faulty(f) => return Verdict::Faulty(f),
+            Parameter::Faulty(f) => return Call::Faulty(f),
         }
         i += 1;
     }
-    Verdict::Fine
+    Call::Number(k)
 }
 
 fn one_parameter(w: &[u8], kind: u8, bytes: &mut [u8]) -> Parameter {
@@ -68,39 +149,35 @@ fn one_parameter(w: &[u8], kind: u8, bytes: &mut [u8]) -> Parameter {
 
 // The word with this number, counted from 0; no bytes where the line has fewer words.
 pub fn word(line: &[u8], number: usize) -> &[u8] {
-    let mut start = spaces(line, 0);
+    piece(line, number, b' ')
+}
+
+// The piece with this number of those that are parted by this byte, one or more of them.
+pub fn piece(s: &[u8], number: usize, b: u8) -> &[u8] {
+    let mut start = past(s, 0, b);
     let mut left = number;
     while 0 < left {
-        start = spaces(line, until(line, start, b' '));
+        start = past(s, until(s, start, b), b);
         left -= 1;
     }
-    let end = until(line, start, b' ');
-    &line[start..end]
+    let end = until(s, start, b);
+    &s[start..end]
 }
 
 // Whether the line has this word.
-pub fn has(line: &[u8], number: usize) -> bool {
+fn has(line: &[u8], number: usize) -> bool {
     let w = word(line, number);
     0 < w.len()
 }
 
-// What a line answers whose choosing word is this one, and none that is listed.
-pub fn unlisted(w: &[u8]) -> Fault {
-    if w.len() == 0 {
-        Fault::TooFewWords
-    } else {
-        Fault::UnknownWord
-    }
-}
-
-// The place of the first byte from here on that is no space, or the end.
-fn spaces(s: &[u8], from: usize) -> usize
+// The place of the first byte from here on that is another, or the end.
+fn past(s: &[u8], from: usize, b: u8) -> usize
     requires { ⌜ from ≤ length (now s) ⌝ }
     ensures { λ r. ⌜ (from ≤ r) × (r ≤ length (now (s .entry))) ⌝ }
 {
     let mut i = from;
     while i < s.len() {
-        if s[i] != b' ' {
+        if s[i] != b {
             return i;
         }
         i += 1;

@@ -8,10 +8,10 @@ use Rattle.console.proofs.words.parameters.Statement.{statement}
 use Rattle.console.proofs.words.parameters.Tie as tie
 
 abbrev Inv-loop : tie.InvT-loop
-Inv-loop line kinds bytes₀ values₀ n i₀ bytes values i = (i ≤ n) × (n ≤ 8) × (n ≡ length kinds) × (length bytes ≡ length bytes₀)
+Inv-loop k line kinds bytes₀ values₀ n i₀ bytes values i = (i ≤ n) × (n ≤ 8) × (n ≡ length kinds) × (length bytes ≡ length bytes₀)
 
 abbrev μ-loop : tie.MeasureT-loop
-μ-loop line kinds bytes₀ values₀ n i₀ bytes values i = n - i
+μ-loop k line kinds bytes₀ values₀ n i₀ bytes values i = n - i
 
 returns : tie.Need-returns Inv-loop μ-loop
 returns c = search needs

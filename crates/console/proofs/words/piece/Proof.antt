@@ -1,19 +1,19 @@
--- `console::words::word` is safe and ends: the measure is the number of words still to pass, and its start stays within the line.
+-- `console::words::piece` is safe and ends: the measure is the number of pieces still to pass, and its start stays within the bytes.
 -- Assumes nothing.
 use Prim.Native.Nat.{_≤_}
 use lib.ListN.{length}
 use borrow.Author.Needs.{needs}
-use Rattle.console.proofs.words.word.Statement.{statement}
-use Rattle.console.proofs.words.word.Tie as tie
+use Rattle.console.proofs.words.piece.Statement.{statement}
+use Rattle.console.proofs.words.piece.Tie as tie
 
 abbrev Inv-loop : tie.InvT-loop
-Inv-loop line number start₀ left₀ start left = start ≤ length line
+Inv-loop s number b start₀ left₀ start left = start ≤ length s
 
 abbrev μ-loop : tie.MeasureT-loop
-μ-loop line number start₀ left₀ start left = left
+μ-loop s number b start₀ left₀ start left = left
 
-spaces-requires : tie.Need-spaces-requires Inv-loop μ-loop
-spaces-requires c κs = search needs
+past-requires : tie.Need-past-requires Inv-loop μ-loop
+past-requires c κs = search needs
 
 loop-holds : tie.Need-loop-holds Inv-loop μ-loop
 loop-holds c = search needs
@@ -21,8 +21,8 @@ loop-holds c = search needs
 until-requires : tie.Need-until-requires Inv-loop μ-loop
 until-requires c κs = search needs
 
-spaces-requires-2 : tie.Need-spaces-requires-2 Inv-loop μ-loop
-spaces-requires-2 c κs = search needs
+past-requires-2 : tie.Need-past-requires-2 Inv-loop μ-loop
+past-requires-2 c κs = search needs
 
 sub-left : tie.Need-sub-left Inv-loop μ-loop
 sub-left c = search needs
@@ -48,16 +48,16 @@ part-result-end c = search needs
 returns : tie.Need-returns Inv-loop μ-loop
 returns c = search needs
 
-pub word-spec : {M : Type 1} → statement M
-word-spec =
+pub piece-spec : {M : Type 1} → statement M
+piece-spec =
     tie.close
     (tie.spec
     Inv-loop
     μ-loop
-    spaces-requires
+    past-requires
     loop-holds
     until-requires
-    spaces-requires-2
+    past-requires-2
     sub-left
     loop-less
     loop-again

@@ -1,16 +1,16 @@
--- `console::words::spaces` is safe and ends. The loop keeps its place between the start and the end.
+-- `console::words::past` is safe and ends. The loop keeps its place between the start and the end.
 -- Assumes nothing.
 use Prim.Native.Nat.{_≤_, _-_}
 use lib.ListN.{length}
 use borrow.Author.Needs.{needs}
-use Rattle.console.proofs.words.spaces.Statement.{statement}
-use Rattle.console.proofs.words.spaces.Tie as tie
+use Rattle.console.proofs.words.past.Statement.{statement}
+use Rattle.console.proofs.words.past.Tie as tie
 
 abbrev Inv-loop : tie.InvT-loop
-Inv-loop s from i₀ i = (from ≤ i) × (i ≤ length s)
+Inv-loop s from b i₀ i = (from ≤ i) × (i ≤ length s)
 
 abbrev μ-loop : tie.MeasureT-loop
-μ-loop s from i₀ i = length s - i
+μ-loop s from b i₀ i = length s - i
 
 loop-holds : tie.Need-loop-holds Inv-loop μ-loop
 loop-holds c = search needs
@@ -33,8 +33,8 @@ loop-again c = search needs
 returns-2 : tie.Need-returns-2 Inv-loop μ-loop
 returns-2 c = search needs
 
-pub spaces-spec : {M : Type 1} → statement M
-spaces-spec =
+pub past-spec : {M : Type 1} → statement M
+past-spec =
     tie.close
     (tie.spec
     Inv-loop
