@@ -4,4 +4,5 @@ pub mod Entries
 pub mod Filling
 pub mod Fronts
 pub mod Ladders
+pub mod Promises
 pub mod Walk
