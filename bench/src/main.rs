@@ -12,6 +12,7 @@ use std::hint::black_box;
 fn main() {
     checksums();
     pathfinder();
+    tongzhu();
 }
 
 fn checksums() {
@@ -38,14 +39,7 @@ fn pathfinder() {
         "Pathfinder reply 02 decoded",
         reply.len(),
         || plain::pf_read(0x02, black_box(&reply), &mut *row.borrow_mut()),
-        || {
-            ours::pf_read(
-                0x02,
-                black_box(&reply),
-                &mut *row2.borrow_mut(),
-                &mut *name.borrow_mut(),
-            )
-        },
+        || ours::pf_read(0x02, black_box(&reply), &mut *row2.borrow_mut(), &mut *name.borrow_mut()),
     );
 
     let (frame, frame2) = (RefCell::new([0u8; 16]), RefCell::new([0u8; 16]));
@@ -81,6 +75,24 @@ fn pathfinder() {
             || ours::pf_find(black_box(&input)),
         );
     }
+}
+
+fn tongzhu() {
+    // Monitor 3 with 32 cells, 4 sensors and 2 MOSFET sensors.
+    let fixed = bytes(7, 5);
+    let payload = [&fixed[..6], &[32], &bytes(68, 13), &[4], &bytes(4, 17), &[2], &bytes(2, 19), &fixed].concat();
+    let mut reply = [&[0x7F, 0x10, 0x02, payload.len() as u8 + 6, 0x12], &payload[..]].concat();
+    reply.push(reply.iter().fold(0u8, |sum, &b| sum.wrapping_sub(b)));
+    let (row, row2) = (RefCell::new([1i32; 80]), RefCell::new([2i32; 80]));
+    assert_eq!(plain::tz_read(0x12, &reply, &mut *row.borrow_mut()), Ok(80));
+    assert_eq!(ours::tz_read(0x12, &reply, &mut *row2.borrow_mut()), (2 << 32) + 80);
+    assert_eq!(row, row2);
+    compare(
+        "Tongzhu monitor 3 decoded, 32 cells",
+        reply.len(),
+        || plain::tz_read(0x12, black_box(&reply), &mut *row.borrow_mut()),
+        || ours::tz_read(0x12, black_box(&reply), &mut *row2.borrow_mut()),
+    );
 }
 
 /// The frame with this opcode and these data.
