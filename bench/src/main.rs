@@ -78,13 +78,13 @@ fn pathfinder() {
 }
 
 fn tongzhu() {
-    // Monitor 3 with 32 cells, 4 sensors and 2 MOSFET sensors.
+    // Monitor 3 with 32 cells, and with two sensors and one MOSFET sensor, as the example of 6.1.4.2 has.
     let fixed = bytes(7, 5);
-    let payload = [&fixed[..6], &[32], &bytes(68, 13), &[4], &bytes(4, 17), &[2], &bytes(2, 19), &fixed].concat();
+    let payload = [&fixed[..6], &[32], &bytes(68, 13), &[2], &bytes(2, 17), &[1], &bytes(1, 19), &fixed].concat();
     let mut reply = [&[0x7F, 0x10, 0x02, payload.len() as u8 + 6, 0x12], &payload[..]].concat();
     reply.push(reply.iter().fold(0u8, |sum, &b| sum.wrapping_sub(b)));
     let (row, row2) = (RefCell::new([1i32; 80]), RefCell::new([2i32; 80]));
-    assert_eq!(plain::tz_read(0x12, &reply, &mut *row.borrow_mut()), Ok(80));
+    assert_eq!(plain::tz_read(0x12, &reply, &mut *row.borrow_mut()), Ok(plain::TzReply::Monitor3(80)));
     assert_eq!(ours::tz_read(0x12, &reply, &mut *row2.borrow_mut()), (2 << 32) + 80);
     assert_eq!(row, row2);
     compare(

@@ -5,4 +5,4 @@ mod pathfinder;
 mod tongzhu;
 
 pub use pathfinder::{crc16, pf_find, pf_read, pf_write};
-pub use tongzhu::tz_read;
+pub use tongzhu::{tz_read, Reply as TzReply};

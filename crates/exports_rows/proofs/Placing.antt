@@ -1,7 +1,7 @@
 -- Values placed in a row one after the other: a loop's store places one more (`one-placed`), and a part placed where the front ended makes the
 -- front longer (`next-part`). The library's `paste` is the loop's state. Assumes nothing.
 use mathlib.Core.Path.{_≡_, refl, sym, ap, ap₂, _∙_}
-use mathlib.Core.List.{List, [], _∷_, _++_, append-assoc}
+use mathlib.Core.List.{List, [], _∷_, _++_, append-assoc, append-nil}
 use Prim.Native.Nat.{ℕ, suc, _+_, _-_, _≤_, _<_}
 use native.Mathlib.Numerals.{add-one}
 use native.Mathlib.Omega.{arith}
@@ -10,7 +10,7 @@ use lib.IntN.{ℤ}
 use lib.ListN.{length, getD, take, drop, set, length-append, length-drop}
 use lib.Seq.{drop-append-add, paste, paste-suc, take-all, take-at, drop-at, drop-drop}
 use Rattle.refusals.specs.Refused.{room}
-use Rattle.exports_rows.specs.Told.{codedAs, roomCode, over, placed}
+use Rattle.exports_rows.specs.Told.{codedAs, roomCode, over, placed, behind, joined}
 
 -- ---- the loop
 
@@ -68,3 +68,51 @@ pub front-placed : (values old : List ℤ) → length values ≤ length old → 
 unfolding placed
 front-placed values old h =
     let e : 0 + length values ≡ length values = omega arith in rw (e, le-leb _ _ h) (values-over 0 values old h)
+
+-- ---- a whole answer in parts
+
+unfoldable pub total : List ℕ → ℕ
+total [] = 0
+total (n ∷ sizes) = n + total sizes
+
+-- each part has its size
+abbrev pub Sizes : List (List ℤ) → List ℕ → Type 0
+Sizes [] [] = Unit {0}
+Sizes [] (n ∷ sizes) = ⊥
+Sizes (p ∷ ps) [] = ⊥
+Sizes (p ∷ ps) (n ∷ sizes) = (length p ≡ n) × Sizes ps sizes
+
+joined-size : (ps : List (List ℤ)) (sizes : List ℕ) → Sizes ps sizes → length (joined ps) ≡ total sizes
+unfolding joined total
+joined-size [] [] s = refl
+joined-size [] (n ∷ sizes) s = absurd s
+joined-size (p ∷ ps) [] s = absurd s
+joined-size (p ∷ ps) (n ∷ sizes) s = length-append p (joined ps) ∙ ap₂ _+_ (s .0) (joined-size ps sizes (s .1))
+
+behind-front : (ps : List (List ℤ)) (sizes : List ℕ) → Sizes ps sizes → (front old : List ℤ) (at : ℕ) → length front ≡ at → at + total sizes ≤ length old
+    → behind at ps sizes (front ++ drop at old) ≡ front ++ joined ps ++ drop (at + total sizes) old
+unfolding joined total
+behind-front [] [] s front old at reach h =
+    let e : at ≡ at + 0 = omega arith in ap₂ (λ (l : List ℤ) (k : ℕ). l ++ drop k old) (sym (append-nil front)) e
+behind-front [] (n ∷ sizes) s front old at reach h = absurd s
+behind-front (p ∷ ps) [] s front old at reach h = absurd s
+behind-front (p ∷ ps) (n ∷ sizes) s front old at reach h =
+    let far : length (front ++ p) ≡ at + n = length-append front p ∙ ap₂ _+_ reach (s .0) in
+    let e : at + n + total sizes ≡ at + (n + total sizes) = omega arith in
+    ap (behind (at + n) ps sizes) (next-part front p old at n reach (s .0) (omega arith))
+    ∙ behind-front ps sizes (s .1) (front ++ p) old (at + n) far (omega arith)
+    ∙ ap₂ (λ (l : List ℤ) (k : ℕ). l ++ drop k old) (append-assoc front p (joined ps)) e
+
+module _ (kind : ℕ) (ps : List (List ℤ)) (sizes : List ℕ) (s : Sizes ps sizes) (row : List ℤ) where
+  pub parts-told : total sizes ≤ length row
+      → (codedAs kind (total sizes) ≡ roomCode kind (length (joined ps)) (length row)) × (behind 0 ps sizes row ≡ over (joined ps) row)
+  parts-told h =
+      let size = joined-size ps sizes s in
+      let e : 0 + total sizes ≡ length (joined ps) = omega arith in
+      let fits : length (joined ps) ≤ length row = omega arith in (
+        ap (codedAs kind) (sym size) ∙ kind-told kind (joined ps) row fits,
+        behind-front ps sizes s [] row 0 refl (omega arith) ∙ ap (λ (k : ℕ). joined ps ++ drop k row) e ∙ values-over kind (joined ps) row fits,
+      )
+
+  pub parts-untold : length row < total sizes → (room ≡ roomCode kind (length (joined ps)) (length row)) × (row ≡ over (joined ps) row)
+  parts-untold h = no-room kind (joined ps) row (omega (arith, joined-size ps sizes s))

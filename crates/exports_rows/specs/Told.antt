@@ -2,7 +2,7 @@
 -- number below, which is how many values there are where they are lent out; a refusal is its own number, of kind 0.
 -- Assumes nothing.
 use Prim.Native.Nat.{ℕ, _+_, _*_, _%_}
-use mathlib.Core.List.{List, _++_}
+use mathlib.Core.List.{List, [], _∷_, _++_}
 use lib.Dec.{ltb, leb}
 use lib.IntN.{ℤ}
 use lib.ListN.{length, take, drop}
@@ -53,6 +53,19 @@ textAfter (letters kind t) text = over t text
 textAfter (plain kind n) text = text
 textAfter (refused r) text = text
 
+-- ---- parts of a row
+
 -- values from the place `at` on, all else as it was; where the row ends before, nothing changes
 unfoldable pub placed : ℕ → List ℤ → List ℤ → List ℤ
 placed at values row = pick (leb (at + length values) (length row)) (take at row ++ values ++ drop (at + length values) row) row
+
+-- parts one behind the other from the place `at` on, of these sizes
+abbrev pub behind : ℕ → List (List ℤ) → List ℕ → List ℤ → List ℤ
+behind at [] sizes row = row
+behind at (p ∷ ps) [] row = row
+behind at (p ∷ ps) (n ∷ sizes) row = behind (at + n) ps sizes (placed at p row)
+
+-- the same parts as one list
+unfoldable pub joined : List (List ℤ) → List ℤ
+joined [] = []
+joined (p ∷ ps) = p ++ joined ps

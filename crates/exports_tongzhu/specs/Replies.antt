@@ -1,8 +1,9 @@
 -- What a Tongzhu reply is to a language that shares no enum: the kind of each answer, and its values in the order of their places in the row.
 -- Assumes nothing.
-use mathlib.Core.List.{List, [], _∷_, _++_, map}
+use Prim.Native.Nat.{ℕ}
+use mathlib.Core.List.{List, [], _∷_, map}
 use lib.IntN.{ℤ, pos}
-use Rattle.exports_rows.specs.Told.{Told, numbers, plain, refused, placed}
+use Rattle.exports_rows.specs.Told.{Told, numbers, plain, refused, placed, joined}
 use Rattle.monitor3_tongzhu.specs.declared.Status.{Status}
 use Rattle.monitor3_tongzhu.specs.declared.Monitor3.{Monitor3}
 use Rattle.monitor3_tongzhu.specs.declared.Lists.{Lists}
@@ -30,8 +31,14 @@ monitor3Numbers m =
     ∷ pos (m .cycles) ∷ pos (m .remaining) ∷ pos (m .capacity) ∷ pos (m .switch) ∷ []
 
 -- and behind them the lists: cells from place 12 on, balance from 44, sensors from 48, MOSFET sensors from 64, to 79
-unfoldable pub allNumbers : Monitor3 → Lists → List ℤ
-allNumbers m l = monitor3Numbers m ++ map pos (l .cells) ++ map pos (l .balance) ++ l .sensors ++ l .mosfets
+abbrev pub partsOf : Monitor3 → Lists → List (List ℤ)
+partsOf m l = monitor3Numbers m ∷ map pos (l .cells) ∷ map pos (l .balance) ∷ l .sensors ∷ l .mosfets ∷ []
+
+abbrev pub sizes : List ℕ
+sizes = 12 ∷ 32 ∷ 4 ∷ 16 ∷ 16 ∷ []
+
+abbrev pub allNumbers : Monitor3 → Lists → List ℤ
+allNumbers m l = joined (partsOf m l)
 
 -- a row in which the lists have been placed
 abbrev pub listed : Lists → List ℤ → List ℤ

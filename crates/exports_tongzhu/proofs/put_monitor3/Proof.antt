@@ -2,8 +2,9 @@
 -- Assumes nothing.
 use mathlib.Core.Path.{ap, _∙_}
 use Rattle.exports_rows.specs.Told.{placed}
-use Rattle.exports_tongzhu.specs.Replies.{listed}
-use Rattle.exports_tongzhu.proofs.Rows.{all-over, all-told, none-told}
+use Rattle.exports_rows.proofs.Placing.{total, parts-told, parts-untold}
+use Rattle.exports_tongzhu.specs.Replies.{partsOf, sizes, listed}
+use Rattle.exports_tongzhu.proofs.Rows.{sized}
 use borrow.Author.Needs.{needs}
 use Rattle.exports_tongzhu.proofs.put_monitor3.Statement.{statement}
 use Rattle.exports_tongzhu.proofs.put_monitor3.Tie as tie
@@ -12,7 +13,8 @@ cast-result : tie.Need-cast-result
 cast-result c = search needs
 
 returns : tie.Need-returns
-returns c = let a = c .before .args in none-told (a .m) (a .lists) (search needs) (search needs) (search needs) (search needs) (a .row .now) (search needs)
+unfolding total
+returns c = let a = c .before .args in parts-untold 2 (partsOf (a .m) (a .lists)) sizes (sized (a .m) (a .lists) (search needs) (search needs) (search needs) (search needs)) (a .row .now) (search needs)
 
 monitor3-numbers-requires : tie.Need-monitor3-numbers-requires
 monitor3-numbers-requires c κs = search needs
@@ -33,12 +35,14 @@ same-length : tie.Need-same-length
 same-length c = search needs
 
 returns-2 : tie.Need-returns-2
+unfolding total
 returns-2 c =
-    let a = c .before .before .before .before .before .before .before .before .before .before .args in (
-      c .coded .ensures ∙ all-told (a .m) (a .lists) (search needs) (search needs) (search needs) (search needs) (a .row .now) (search needs),
+    let a = c .before .before .before .before .before .before .before .before .before .before .args in
+    let told = parts-told 2 (partsOf (a .m) (a .lists)) sizes (sized (a .m) (a .lists) (search needs) (search needs) (search needs) (search needs)) (a .row .now) (search needs) in (
+      c .coded .ensures ∙ told .0,
       c .before .before .put-lists .ensures
           ∙ ap (listed (a .lists)) (c .before .before .before .before .before .put-i32 .ensures ∙ ap (λ ns. placed 0 ns (a .row .now)) (c .before .before .before .before .before .before .before .before .monitor3-numbers .ensures))
-          ∙ all-over (a .m) (a .lists) (search needs) (search needs) (search needs) (search needs) (a .row .now) (search needs),
+          ∙ told .1,
     )
 
 pub put-monitor3-spec : {M : Type 1} → statement M
