@@ -12,6 +12,9 @@ use mir.ValLaws.{toZ-ofZ}
 pub kept : {r x : ℤ} → mag r < 2147483648 → r ≡ x → toZ w32 (ofZ w32 r) ≡ x
 kept {r} h e = toZ-ofZ w32 r (record { sfits = h }) ∙ e
 
--- one value, and the values behind it
+-- a value, and the values behind it
+pub then : {a x : ℤ} {l m : List ℤ} → a ≡ x → l ≡ m → a ∷ l ≡ x ∷ m
+then e t = ap₂ (λ (b : ℤ) (k : List ℤ). b ∷ k) e t
+
 pub same : {r x : ℤ} {l m : List ℤ} → mag r < 2147483648 → r ≡ x → l ≡ m → toZ w32 (ofZ w32 r) ∷ l ≡ x ∷ m
-same h e t = ap₂ (λ (a : ℤ) (k : List ℤ). a ∷ k) (kept h e) t
+same h e t = then (kept h e) t
