@@ -13,6 +13,7 @@ fn main() {
     checksums();
     pathfinder();
     tongzhu();
+    old58();
 }
 
 fn checksums() {
@@ -92,6 +93,22 @@ fn tongzhu() {
         reply.len(),
         || plain::tz_read(0x12, black_box(&reply), &mut *row.borrow_mut()),
         || ours::tz_read(0x12, black_box(&reply), &mut *row2.borrow_mut()),
+    );
+}
+
+fn old58() {
+    let mut record = bytes(58, 23);
+    (record[3], record[6], record[9], record[47], record[48]) = (b'+', b'-', b'X', 7, 45);
+    record[57] = record[..57].iter().fold(0u8, |sum, &b| sum.wrapping_add(b));
+    let (row, row2) = (RefCell::new([1i32; 32]), RefCell::new([2i32; 32]));
+    assert_eq!(plain::old_read(&record, &mut *row.borrow_mut()), Ok(32));
+    assert_eq!(ours::old_read(&record, &mut *row2.borrow_mut()), (1 << 32) + 32);
+    assert_eq!(row, row2);
+    compare(
+        "58-byte record decoded",
+        record.len(),
+        || plain::old_read(black_box(&record), &mut *row.borrow_mut()),
+        || ours::old_read(black_box(&record), &mut *row2.borrow_mut()),
     );
 }
 

@@ -15,6 +15,7 @@ extern "C" {
     fn tracksaffron_pf_write(register: u8, value: i32, out: *mut u8, room: usize) -> u64;
     fn tracksaffron_pf_find(s: *const u8, len: usize) -> usize;
     fn tracksaffron_tz_read(asked: u8, s: *const u8, len: usize, row: *mut i32, numbers: usize) -> u64;
+    fn tracksaffron_old_read(s: *const u8, len: usize, row: *mut i32, numbers: usize) -> u64;
 }
 
 // SAFETY, of each call here: it takes any slices, reads or writes them within their lengths only, and keeps nothing of them.
@@ -39,4 +40,8 @@ pub fn pf_find(s: &[u8]) -> usize {
 
 pub fn tz_read(asked: u8, s: &[u8], row: &mut [i32]) -> u64 {
     unsafe { tracksaffron_tz_read(asked, s.as_ptr(), s.len(), row.as_mut_ptr(), row.len()) }
+}
+
+pub fn old_read(s: &[u8], row: &mut [i32]) -> u64 {
+    unsafe { tracksaffron_old_read(s.as_ptr(), s.len(), row.as_mut_ptr(), row.len()) }
 }

@@ -25,6 +25,18 @@ pub fn put_numbers(kind: u8, numbers: &[i32], row: &mut [i32]) -> u64
     coded(kind, numbers.len())
 }
 
+// An answer of this kind whose text this is: it goes to the front of the bytes.
+pub fn put_text(kind: u8, text: &[u8], out: &mut [u8]) -> u64
+    ensures answer { λ r. ⌜ r ≡ roomCode kind (length (now (text .entry))) (length (now (out .entry))) ⌝ }
+    ensures copied { λ r. ⌜ now (out .exit) ≡ over (now (text .entry)) (now (out .entry)) ⌝ }
+{
+    if out.len() < text.len() {
+        return refusals::ROOM as u64;
+    }
+    bytes::copy(text, out);
+    coded(kind, text.len())
+}
+
 // The numbers from the place `at` of the row on; where the row ends before, nothing.
 pub fn put_i32(numbers: &[i32], at: usize, row: &mut [i32])
     ensures { λ _. ⌜ now (row .exit) ≡ placed at (now (numbers .entry)) (now (row .entry)) ⌝ }
