@@ -13,6 +13,7 @@ fn main() {
     checksums();
     pathfinder();
     tongzhu();
+    pace();
     old58();
 }
 
@@ -93,6 +94,28 @@ fn tongzhu() {
         reply.len(),
         || plain::tz_read(0x12, black_box(&reply), &mut *row.borrow_mut()),
         || ours::tz_read(0x12, black_box(&reply), &mut *row2.borrow_mut()),
+    );
+}
+
+fn pace() {
+    // Analog information with 16 cells and 6 temperatures.
+    let info = [&[0, 1, 16], &bytes(32, 29)[..], &[6], &bytes(12, 31), &bytes(6, 37), &[3], &bytes(6, 41)].concat();
+    let hex = |b: &[u8]| b.iter().map(|b| format!("{b:02X}")).collect::<String>();
+    let count = 2 * info.len() as u16;
+    let digits = (count >> 8) + (count >> 4 & 15) + (count & 15);
+    let length = (16 - digits % 16) % 16 << 12 | count;
+    let covered = format!("25014600{length:04X}{}", hex(&info));
+    let check = covered.bytes().fold(0u16, |sum, c| sum.wrapping_sub(u16::from(c)));
+    let reply = format!("~{covered}{check:04X}\r").into_bytes();
+    let (row, row2, text) = (RefCell::new([1i32; 32]), RefCell::new([2i32; 32]), RefCell::new([0u8; 0]));
+    assert_eq!(plain::pace_read(1, 0x42, &reply, &mut *row.borrow_mut()), Ok(32));
+    assert_eq!(ours::pace_read(1, 0x42, &reply, &mut *row2.borrow_mut(), &mut *text.borrow_mut()), (1 << 32) + 32);
+    assert_eq!(row, row2);
+    compare(
+        "PACE analog reply decoded, 16 cells",
+        reply.len(),
+        || plain::pace_read(1, 0x42, black_box(&reply), &mut *row.borrow_mut()),
+        || ours::pace_read(1, 0x42, black_box(&reply), &mut *row2.borrow_mut(), &mut *text.borrow_mut()),
     );
 }
 

@@ -15,6 +15,16 @@ extern "C" {
     fn tracksaffron_pf_write(register: u8, value: i32, out: *mut u8, room: usize) -> u64;
     fn tracksaffron_pf_find(s: *const u8, len: usize) -> usize;
     fn tracksaffron_tz_read(asked: u8, s: *const u8, len: usize, row: *mut i32, numbers: usize) -> u64;
+    fn tracksaffron_pace_read(
+        address: u8,
+        asked: u8,
+        s: *const u8,
+        len: usize,
+        row: *mut i32,
+        numbers: usize,
+        text: *mut u8,
+        bytes: usize,
+    ) -> u64;
     fn tracksaffron_old_read(s: *const u8, len: usize, row: *mut i32, numbers: usize) -> u64;
 }
 
@@ -44,4 +54,19 @@ pub fn tz_read(asked: u8, s: &[u8], row: &mut [i32]) -> u64 {
 
 pub fn old_read(s: &[u8], row: &mut [i32]) -> u64 {
     unsafe { tracksaffron_old_read(s.as_ptr(), s.len(), row.as_mut_ptr(), row.len()) }
+}
+
+pub fn pace_read(address: u8, asked: u8, s: &[u8], row: &mut [i32], text: &mut [u8]) -> u64 {
+    unsafe {
+        tracksaffron_pace_read(
+            address,
+            asked,
+            s.as_ptr(),
+            s.len(),
+            row.as_mut_ptr(),
+            row.len(),
+            text.as_mut_ptr(),
+            text.len(),
+        )
+    }
 }
