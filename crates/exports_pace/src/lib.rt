@@ -10,15 +10,20 @@ use exports_rows::put_text;
 use exports_rows::put_u8;
 use exports_rows::put_u16;
 use exports_rows::signed_half;
+use frames_pace::Written;
 use records_pace::Answer;
 use records_pace::Reply;
 use records_pace::read_reply;
+use requests_pace::Request;
+use requests_pace::write_request;
 use rows_pace::Values;
 use warnings_pace::Warnings;
 ghost use mathlib.Core.Path.{_≡_};
 ghost use lib.ListN.{length, take};
 ghost use Rattle.records_pace.specs.Reply.{replyOf};
 ghost use Rattle.exports_rows.specs.Told.{codeOf, rowAfter, textAfter, roomCode, over};
+ghost use Rattle.requests_pace.specs.Request.{writtenOf, roomAfter};
+ghost use Rattle.exports_pace.specs.Requests.{overvoltage, discharge, writtenCode};
 ghost use Rattle.exports_pace.specs.Replies.{analogNumbers, analogAll, warningNumbers, warningAll, valuesTold, toldAs, toldOf};
 
 // How many numbers the analog information and the warnings have, with their lists.
@@ -40,6 +45,66 @@ pub extern "C" fn tracksaffron_pace_read(
     ensures copied { λ r. ⌜ now (text .exit) ≡ textAfter (toldOf (replyOf address asked (now (s .entry)))) (now (text .entry)) ⌝ }
 {
     tell(read_reply(address, asked, s), row, text)
+}
+
+// Writes the PACE request with this command, one that carries no values.
+#[no_mangle]
+pub extern "C" fn tracksaffron_pace_ask(address: u8, command: u8, out: &mut [u8]) -> u64
+    ensures answer { λ r. ⌜ r ≡ writtenCode (writtenOf (Request.Ask address command) (now (out .entry))) ⌝ }
+    ensures room { λ r. ⌜ now (out .exit) ≡ roomAfter (writtenOf (Request.Ask address command) (now (out .entry))) (Request.Ask address command) (now (out .entry)) ⌝ }
+{
+    written_number(write_request(Request::Ask { address, command }, out))
+}
+
+// Writes the PACE request that sets the cells' overvoltage, in mV and 100 ms.
+#[no_mangle]
+pub extern "C" fn tracksaffron_pace_cell_overvoltage(
+    address: u8,
+    alarm_mv: u16,
+    protect_mv: u16,
+    release_mv: u16,
+    delay_100ms: u8,
+    out: &mut [u8],
+) -> u64
+    ensures answer { λ r. ⌜ r ≡ writtenCode (writtenOf (overvoltage address «alarm_mv» «protect_mv» «release_mv» «delay_100ms») (now (out .entry))) ⌝ }
+    ensures room { λ r. ⌜ now (out .exit) ≡ roomAfter (writtenOf (overvoltage address «alarm_mv» «protect_mv» «release_mv» «delay_100ms») (now (out .entry))) (overvoltage address «alarm_mv» «protect_mv» «release_mv» «delay_100ms») (now (out .entry)) ⌝ }
+{
+    let values = Values::CellOvervoltage {
+        alarm_mv,
+        protect_mv,
+        release_mv,
+        delay_100ms,
+    };
+    written_number(write_request(Request::Set { address, values }, out))
+}
+
+// Writes the PACE request that sets the slow discharge current, in A and 100 ms.
+#[no_mangle]
+pub extern "C" fn tracksaffron_pace_slow_discharge(
+    address: u8,
+    alarm_a: u16,
+    protect_a: u16,
+    delay_100ms: u8,
+    out: &mut [u8],
+) -> u64
+    ensures answer { λ r. ⌜ r ≡ writtenCode (writtenOf (discharge address «alarm_a» «protect_a» «delay_100ms») (now (out .entry))) ⌝ }
+    ensures room { λ r. ⌜ now (out .exit) ≡ roomAfter (writtenOf (discharge address «alarm_a» «protect_a» «delay_100ms») (now (out .entry))) (discharge address «alarm_a» «protect_a» «delay_100ms») (now (out .entry)) ⌝ }
+{
+    let values = Values::SlowDischarge {
+        alarm_a,
+        protect_a,
+        delay_100ms,
+    };
+    written_number(write_request(Request::Set { address, values }, out))
+}
+
+fn written_number(w: Written) -> u64
+    ensures { λ n. ⌜ n ≡ writtenCode w ⌝ }
+{
+    match w {
+        Written::Frame(n) => coded(1, n),
+        Written::Refused(r) => r.number as u64,
+    }
 }
 
 fn tell(r: Reply, row: &mut [i32], text: &mut [u8]) -> u64

@@ -17,10 +17,16 @@ use records_tongzhu::Answer;
 use records_tongzhu::Monitor2;
 use records_tongzhu::Reply;
 use records_tongzhu::read_reply;
+use requests_tongzhu::Request;
+use requests_tongzhu::Time;
+use requests_tongzhu::Written;
+use requests_tongzhu::write_request;
 ghost use mathlib.Core.Path.{_≡_};
 ghost use lib.ListN.{length};
 ghost use Rattle.records_tongzhu.specs.Replies.{replyOf};
 ghost use Rattle.exports_rows.specs.Told.{codeOf, rowAfter, roomCode, over};
+ghost use Rattle.requests_tongzhu.specs.Requests.{wireOf, writtenOf, roomAfter};
+ghost use Rattle.exports_tongzhu.specs.Requests.{timeOf, writtenCode};
 ghost use Rattle.exports_tongzhu.specs.Replies.{statusNumbers, monitor2Numbers, monitor3Numbers, allNumbers, listed, toldOf};
 
 // How many numbers a monitor 3 has: its own, then 32 cells, 4 bytes of balance, 16 sensors and 16 MOSFET sensors.
@@ -33,6 +39,49 @@ pub extern "C" fn tracksaffron_tz_read(asked: u8, s: &[u8], row: &mut [i32]) -> 
     ensures filled { λ r. ⌜ now (row .exit) ≡ rowAfter (toldOf (replyOf asked (now (s .entry)))) (now (row .entry)) ⌝ }
 {
     tell(read_reply(asked, s), row)
+}
+
+// Writes the request that asks for what a Tongzhu function reads.
+#[no_mangle]
+pub extern "C" fn tracksaffron_tz_ask(function: u8, out: &mut [u8]) -> u64
+    ensures answer { λ r. ⌜ r ≡ writtenCode (writtenOf (wireOf (Request.Ask function)) (length (now (out .entry)))) ⌝ }
+    ensures room { λ r. ⌜ now (out .exit) ≡ roomAfter (wireOf (Request.Ask function)) (now (out .entry)) ⌝ }
+{
+    written_number(write_request(Request::Ask(function), out))
+}
+
+// Writes the request that sets the time of a Tongzhu monitor; the year counts from 2000.
+#[no_mangle]
+pub extern "C" fn tracksaffron_tz_set_time(
+    year: u8,
+    month: u8,
+    day: u8,
+    hour: u8,
+    minute: u8,
+    second: u8,
+    out: &mut [u8],
+) -> u64
+    ensures answer { λ r. ⌜ r ≡ writtenCode (writtenOf (wireOf (Request.SetTime (timeOf year month day hour minute second))) (length (now (out .entry)))) ⌝ }
+    ensures room { λ r. ⌜ now (out .exit) ≡ roomAfter (wireOf (Request.SetTime (timeOf year month day hour minute second))) (now (out .entry)) ⌝ }
+{
+    let t = Time {
+        year,
+        month,
+        day,
+        hour,
+        minute,
+        second,
+    };
+    written_number(write_request(Request::SetTime(t), out))
+}
+
+fn written_number(w: Written) -> u64
+    ensures { λ n. ⌜ n ≡ writtenCode w ⌝ }
+{
+    match w {
+        Written::Frame(n) => coded(1, n),
+        Written::Refused(r) => r.number as u64,
+    }
 }
 
 fn tell(r: Reply, row: &mut [i32]) -> u64
