@@ -60,20 +60,20 @@ pub extern "C" fn tracksaffron_pace_ask(address: u8, command: u8, out: &mut [u8]
 #[no_mangle]
 pub extern "C" fn tracksaffron_pace_cell_overvoltage(
     address: u8,
-    alarm_mv: u16,
-    protect_mv: u16,
-    release_mv: u16,
-    delay_100ms: u8,
+    alarm: u16,
+    protect: u16,
+    release: u16,
+    delay: u8,
     out: &mut [u8],
 ) -> u64
-    ensures answer { λ r. ⌜ r ≡ writtenCode (writtenOf (overvoltage address «alarm_mv» «protect_mv» «release_mv» «delay_100ms») (now (out .entry))) ⌝ }
-    ensures room { λ r. ⌜ now (out .exit) ≡ roomAfter (writtenOf (overvoltage address «alarm_mv» «protect_mv» «release_mv» «delay_100ms») (now (out .entry))) (overvoltage address «alarm_mv» «protect_mv» «release_mv» «delay_100ms») (now (out .entry)) ⌝ }
+    ensures answer { λ r. ⌜ r ≡ writtenCode (writtenOf (overvoltage address alarm protect release delay) (now (out .entry))) ⌝ }
+    ensures room { λ r. ⌜ now (out .exit) ≡ roomAfter (writtenOf (overvoltage address alarm protect release delay) (now (out .entry))) (overvoltage address alarm protect release delay) (now (out .entry)) ⌝ }
 {
     let values = Values::CellOvervoltage {
-        alarm_mv,
-        protect_mv,
-        release_mv,
-        delay_100ms,
+        alarm_mv: alarm,
+        protect_mv: protect,
+        release_mv: release,
+        delay_100ms: delay,
     };
     written_number(write_request(Request::Set { address, values }, out))
 }
@@ -82,18 +82,18 @@ pub extern "C" fn tracksaffron_pace_cell_overvoltage(
 #[no_mangle]
 pub extern "C" fn tracksaffron_pace_slow_discharge(
     address: u8,
-    alarm_a: u16,
-    protect_a: u16,
-    delay_100ms: u8,
+    alarm: u16,
+    protect: u16,
+    delay: u8,
     out: &mut [u8],
 ) -> u64
-    ensures answer { λ r. ⌜ r ≡ writtenCode (writtenOf (discharge address «alarm_a» «protect_a» «delay_100ms») (now (out .entry))) ⌝ }
-    ensures room { λ r. ⌜ now (out .exit) ≡ roomAfter (writtenOf (discharge address «alarm_a» «protect_a» «delay_100ms») (now (out .entry))) (discharge address «alarm_a» «protect_a» «delay_100ms») (now (out .entry)) ⌝ }
+    ensures answer { λ r. ⌜ r ≡ writtenCode (writtenOf (discharge address alarm protect delay) (now (out .entry))) ⌝ }
+    ensures room { λ r. ⌜ now (out .exit) ≡ roomAfter (writtenOf (discharge address alarm protect delay) (now (out .entry))) (discharge address alarm protect delay) (now (out .entry)) ⌝ }
 {
     let values = Values::SlowDischarge {
-        alarm_a,
-        protect_a,
-        delay_100ms,
+        alarm_a: alarm,
+        protect_a: protect,
+        delay_100ms: delay,
     };
     written_number(write_request(Request::Set { address, values }, out))
 }

@@ -107,26 +107,26 @@ pub fn put_u16(numbers: &[u16], at: usize, row: &mut [i32])
 }
 
 // One value as a number of the row.
-pub fn byte(n: u8) -> i32
-    ensures { λ r. ⌜ r ≡ pos n ⌝ }
+pub fn byte(b: u8) -> i32
+    ensures { λ r. ⌜ r ≡ pos b ⌝ }
 {
-    n as i32
+    b as i32
 }
 
-pub fn half(n: u16) -> i32
-    ensures { λ r. ⌜ r ≡ pos n ⌝ }
+pub fn half(h: u16) -> i32
+    ensures { λ r. ⌜ r ≡ pos h ⌝ }
 {
-    n as i32
+    h as i32
 }
 
-pub fn signed(n: i8) -> i32
-    ensures { λ r. ⌜ r ≡ n ⌝ }
+pub fn signed(v: i8) -> i32
+    ensures { λ r. ⌜ r ≡ v ⌝ }
 {
-    n as i32
+    v as i32
 }
 
-pub fn signed_half(n: i16) -> i32
-    ensures { λ r. ⌜ r ≡ n ⌝ }
+pub fn signed_half(w: i16) -> i32
+    ensures { λ r. ⌜ r ≡ w ⌝ }
 {
-    n as i32
+    w as i32
 }

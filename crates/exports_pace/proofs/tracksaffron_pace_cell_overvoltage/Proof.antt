@@ -20,7 +20,7 @@ returns : tie.Need-returns
 returns c =
     let a = c .before .before .before .before .before .before .args in
     let e = c .before .before .before .write-request .ensures in
-    (c .written-number .ensures ∙ ap writtenCode (e .0), e .1 ∙ ap (λ w. roomAfter w (overvoltage (a .address) (a .alarm-mv) (a .protect-mv) (a .release-mv) (a .delay-100ms)) (a .out .now)) (e .0))
+    (c .written-number .ensures ∙ ap writtenCode (e .0), e .1 ∙ ap (λ w. roomAfter w (overvoltage (a .address) (a .alarm) (a .protect) (a .release) (a .delay)) (a .out .now)) (e .0))
 
 pub tracksaffron-pace-cell-overvoltage-spec : {M : Type 1} → statement M
 tracksaffron-pace-cell-overvoltage-spec =

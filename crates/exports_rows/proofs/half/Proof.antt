@@ -11,7 +11,7 @@ cast-result : tie.Need-cast-result
 cast-result c = search needs
 
 returns : tie.Need-returns
-returns c = toZ-pos w32 (c .args .n) (omega arith)
+returns c = toZ-pos w32 (c .args .h) (omega arith)
 
 pub half-spec : {M : Type 1} → statement M
 half-spec = tie.close (tie.spec cast-result returns)

@@ -7,10 +7,10 @@ use Rattle.exports_rows.proofs.signed.Statement.{statement}
 use Rattle.exports_rows.proofs.signed.Tie as tie
 
 cast-result : tie.Need-cast-result
-cast-result c = wide-fits w8 w32 (c .args .n) (c .fits .n) (sfits-widen {w = w8} tt (c .fits .n))
+cast-result c = wide-fits w8 w32 (c .args .v) (c .fits .v) (sfits-widen {w = w8} tt (c .fits .v))
 
 returns : tie.Need-returns
-returns c = wide-held w8 w32 (c .args .n) (c .fits .n) (sfits-widen {w = w8} tt (c .fits .n))
+returns c = wide-held w8 w32 (c .args .v) (c .fits .v) (sfits-widen {w = w8} tt (c .fits .v))
 
 pub signed-spec : {M : Type 1} → statement M
 signed-spec = tie.close (tie.spec cast-result returns)
