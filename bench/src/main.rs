@@ -12,6 +12,9 @@ use std::hint::black_box;
 fn main() {
     checksums();
     pathfinder();
+    tongzhu();
+    pace();
+    old58();
 }
 
 fn checksums() {
@@ -38,14 +41,7 @@ fn pathfinder() {
         "Pathfinder reply 02 decoded",
         reply.len(),
         || plain::pf_read(0x02, black_box(&reply), &mut *row.borrow_mut()),
-        || {
-            ours::pf_read(
-                0x02,
-                black_box(&reply),
-                &mut *row2.borrow_mut(),
-                &mut *name.borrow_mut(),
-            )
-        },
+        || ours::pf_read(0x02, black_box(&reply), &mut *row2.borrow_mut(), &mut *name.borrow_mut()),
     );
 
     let (frame, frame2) = (RefCell::new([0u8; 16]), RefCell::new([0u8; 16]));
@@ -81,6 +77,62 @@ fn pathfinder() {
             || ours::pf_find(black_box(&input)),
         );
     }
+}
+
+fn tongzhu() {
+    // Monitor 3 with 32 cells, and with two sensors and one MOSFET sensor, as the example of 6.1.4.2 has.
+    let fixed = bytes(7, 5);
+    let payload = [&fixed[..6], &[32], &bytes(68, 13), &[2], &bytes(2, 17), &[1], &bytes(1, 19), &fixed].concat();
+    let mut reply = [&[0x7F, 0x10, 0x02, payload.len() as u8 + 6, 0x12], &payload[..]].concat();
+    reply.push(reply.iter().fold(0u8, |sum, &b| sum.wrapping_sub(b)));
+    let (row, row2) = (RefCell::new([1i32; 80]), RefCell::new([2i32; 80]));
+    assert_eq!(plain::tz_read(0x12, &reply, &mut *row.borrow_mut()), Ok(plain::TzReply::Monitor3(80)));
+    assert_eq!(ours::tz_read(0x12, &reply, &mut *row2.borrow_mut()), (2 << 32) + 80);
+    assert_eq!(row, row2);
+    compare(
+        "Tongzhu monitor 3 decoded, 32 cells",
+        reply.len(),
+        || plain::tz_read(0x12, black_box(&reply), &mut *row.borrow_mut()),
+        || ours::tz_read(0x12, black_box(&reply), &mut *row2.borrow_mut()),
+    );
+}
+
+fn pace() {
+    // Analog information with 16 cells and 6 temperatures.
+    let info = [&[0, 1, 16], &bytes(32, 29)[..], &[6], &bytes(12, 31), &bytes(6, 37), &[3], &bytes(6, 41)].concat();
+    let hex = |b: &[u8]| b.iter().map(|b| format!("{b:02X}")).collect::<String>();
+    let count = 2 * info.len() as u16;
+    let digits = (count >> 8) + (count >> 4 & 15) + (count & 15);
+    let length = (16 - digits % 16) % 16 << 12 | count;
+    let covered = format!("25014600{length:04X}{}", hex(&info));
+    let check = covered.bytes().fold(0u16, |sum, c| sum.wrapping_sub(u16::from(c)));
+    let reply = format!("~{covered}{check:04X}\r").into_bytes();
+    let (row, row2, text) = (RefCell::new([1i32; 32]), RefCell::new([2i32; 32]), RefCell::new([0u8; 0]));
+    assert_eq!(plain::pace_read(1, 0x42, &reply, &mut *row.borrow_mut()), Ok(32));
+    assert_eq!(ours::pace_read(1, 0x42, &reply, &mut *row2.borrow_mut(), &mut *text.borrow_mut()), (1 << 32) + 32);
+    assert_eq!(row, row2);
+    compare(
+        "PACE analog reply decoded, 16 cells",
+        reply.len(),
+        || plain::pace_read(1, 0x42, black_box(&reply), &mut *row.borrow_mut()),
+        || ours::pace_read(1, 0x42, black_box(&reply), &mut *row2.borrow_mut(), &mut *text.borrow_mut()),
+    );
+}
+
+fn old58() {
+    let mut record = bytes(58, 23);
+    (record[3], record[6], record[9], record[47], record[48]) = (b'+', b'-', b'X', 7, 45);
+    record[57] = record[..57].iter().fold(0u8, |sum, &b| sum.wrapping_add(b));
+    let (row, row2) = (RefCell::new([1i32; 32]), RefCell::new([2i32; 32]));
+    assert_eq!(plain::old_read(&record, &mut *row.borrow_mut()), Ok(32));
+    assert_eq!(ours::old_read(&record, &mut *row2.borrow_mut()), (1 << 32) + 32);
+    assert_eq!(row, row2);
+    compare(
+        "58-byte record decoded",
+        record.len(),
+        || plain::old_read(black_box(&record), &mut *row.borrow_mut()),
+        || ours::old_read(black_box(&record), &mut *row2.borrow_mut()),
+    );
 }
 
 /// The frame with this opcode and these data.

@@ -14,9 +14,7 @@ pub fn bytes(size: usize, seed: u64) -> Vec<u8> {
     let mut state = seed;
     (0..size)
         .map(|_| {
-            state = state
-                .wrapping_mul(6364136223846793005)
-                .wrapping_add(1442695040888963407);
+            state = state.wrapping_mul(6364136223846793005).wrapping_add(1442695040888963407);
             (state >> 56) as u8
         })
         .collect()
@@ -32,10 +30,7 @@ pub fn compare<T, U>(name: &str, size: usize, plain: impl Fn() -> T, ours: impl 
         our_times.push(sample(turns, &ours));
     }
     let (p, o) = (median(plain_times), median(our_times));
-    println!(
-        "{name}: ratio {:.2} (plain {p:.1} ns, ours {o:.1} ns, {size} bytes)",
-        p / o
-    );
+    println!("{name}: ratio {:.2} (plain {p:.1} ns, ours {o:.1} ns, {size} bytes)", p / o);
 }
 
 /// How often a call is made in a sample.

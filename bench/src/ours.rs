@@ -1,6 +1,6 @@
-//! The library's calls, over `libexports.a`. A slice passes as a pointer and a length.
+//! The library's calls, over `libtracksaffron.a`. A slice passes as a pointer and a length.
 
-#[link(name = "exports", kind = "static")]
+#[link(name = "tracksaffron", kind = "static")]
 extern "C" {
     fn tracksaffron_crc16(s: *const u8, len: usize) -> u16;
     fn tracksaffron_pf_read(
@@ -14,6 +14,18 @@ extern "C" {
     ) -> u64;
     fn tracksaffron_pf_write(register: u8, value: i32, out: *mut u8, room: usize) -> u64;
     fn tracksaffron_pf_find(s: *const u8, len: usize) -> usize;
+    fn tracksaffron_tz_read(asked: u8, s: *const u8, len: usize, row: *mut i32, numbers: usize) -> u64;
+    fn tracksaffron_pace_read(
+        address: u8,
+        asked: u8,
+        s: *const u8,
+        len: usize,
+        row: *mut i32,
+        numbers: usize,
+        text: *mut u8,
+        bytes: usize,
+    ) -> u64;
+    fn tracksaffron_old_read(s: *const u8, len: usize, row: *mut i32, numbers: usize) -> u64;
 }
 
 // SAFETY, of each call here: it takes any slices, reads or writes them within their lengths only, and keeps nothing of them.
@@ -24,15 +36,7 @@ pub fn crc16(s: &[u8]) -> u16 {
 
 pub fn pf_read(asked: u8, s: &[u8], row: &mut [i32], name: &mut [u8]) -> u64 {
     unsafe {
-        tracksaffron_pf_read(
-            asked,
-            s.as_ptr(),
-            s.len(),
-            row.as_mut_ptr(),
-            row.len(),
-            name.as_mut_ptr(),
-            name.len(),
-        )
+        tracksaffron_pf_read(asked, s.as_ptr(), s.len(), row.as_mut_ptr(), row.len(), name.as_mut_ptr(), name.len())
     }
 }
 
@@ -42,4 +46,27 @@ pub fn pf_write(register: u8, value: i32, out: &mut [u8]) -> u64 {
 
 pub fn pf_find(s: &[u8]) -> usize {
     unsafe { tracksaffron_pf_find(s.as_ptr(), s.len()) }
+}
+
+pub fn tz_read(asked: u8, s: &[u8], row: &mut [i32]) -> u64 {
+    unsafe { tracksaffron_tz_read(asked, s.as_ptr(), s.len(), row.as_mut_ptr(), row.len()) }
+}
+
+pub fn old_read(s: &[u8], row: &mut [i32]) -> u64 {
+    unsafe { tracksaffron_old_read(s.as_ptr(), s.len(), row.as_mut_ptr(), row.len()) }
+}
+
+pub fn pace_read(address: u8, asked: u8, s: &[u8], row: &mut [i32], text: &mut [u8]) -> u64 {
+    unsafe {
+        tracksaffron_pace_read(
+            address,
+            asked,
+            s.as_ptr(),
+            s.len(),
+            row.as_mut_ptr(),
+            row.len(),
+            text.as_mut_ptr(),
+            text.len(),
+        )
+    }
 }

@@ -1,15 +1,19 @@
--- An answer as one number, for languages that share no enum: a kind above 2 ^ 32 and its number below; a refusal is its own number, and its kind 0.
+-- Pathfinder's answers as numbers, for languages that share no enum (exports_rows, specs/Told.antt).
 -- Assumes nothing.
-use Prim.Native.Nat.{ℕ, _+_, _*_, _%_}
+use Prim.Native.Nat.{ℕ}
+use mathlib.Core.Bool.{Bool, true, false}
+use mathlib.Core.List.{[], _∷_}
+use lib.IntN.{ℤ, pos}
 use Rattle.records_pathfinder.specs.declared.Reply.{Reply}
 use Rattle.records_pathfinder.specs.declared.Reply.the-variants.{Words, Name, Written, Failure, Refused}
 use Rattle.requests_pathfinder.specs.declared.Written.{Written as Sent}
 use Rattle.requests_pathfinder.specs.declared.Written.the-variants.{Frame, Refused as NotSent}
 use Rattle.search_pathfinder.specs.declared.Found.{Found}
 use Rattle.search_pathfinder.specs.declared.Found.the-variants.{At, Nothing}
-
-abbrev pub codedAs : ℕ → ℕ → ℕ
-codedAs kind n = kind * 4294967296 + n % 4294967296
+use Rattle.rows_pathfinder.specs.declared.TenMillivolts.{TenMillivolts}
+use Rattle.rows_pathfinder.specs.declared.Row.{Row}
+use Rattle.rows_pathfinder.specs.declared.Row.the-variants as row
+use Rattle.exports_rows.specs.Told.{Told, numbers, plain, refused, codedAs}
 
 -- 1 words, 2 a name, 3 written, 4 the device's failure
 abbrev pub replyCode : Reply → ℕ
@@ -28,3 +32,18 @@ writtenCode (NotSent r) = r .number
 abbrev pub placeCode : Found → ℕ → ℕ
 placeCode (At p n) len = p
 placeCode Nothing len = len
+
+-- 1 a number, 2 one in units of ten millivolts, 3 a truth as 1 or 0, 4 no data
+abbrev pub tensOf : TenMillivolts → ℤ
+tensOf v = v .0
+
+abbrev pub truthOf : Bool → ℤ
+truthOf true = pos 1
+truthOf false = pos 0
+
+abbrev pub toldRow : Row → Told
+toldRow (row.Number v) = numbers 1 (v ∷ [])
+toldRow (row.TenMillivolts v) = numbers 2 (tensOf v ∷ [])
+toldRow (row.Truth b) = numbers 3 (truthOf b ∷ [])
+toldRow row.Missing = plain 4 0
+toldRow (row.Refused r) = refused r

@@ -1,19 +1,25 @@
-// The calls that programs in other languages link (`rt staticlib exports`): numbers and slices only, each safe with any input.
+// Pathfinder for other languages (`rt staticlib exports`): numbers and slices only, each call safe with any input.
 // An answer that is an enum goes out as one number: `specs/Codes.antt` says which.
+use exports_rows::coded;
 use records_pathfinder::Reply;
 use records_pathfinder::read_reply;
 use requests_pathfinder::Request;
 use requests_pathfinder::Written;
 use requests_pathfinder::write_request;
+use rows_pathfinder::Row;
+use rows_pathfinder::TenMillivolts;
+use rows_pathfinder::narrow;
 use search_pathfinder::Found;
 ghost use mathlib.Core.Path.{_≡_};
-ghost use Prim.Native.Nat.{_+_, _*_, _%_, _<_};
+ghost use mathlib.Core.List.{[], _∷_};
 ghost use lib.ListN.{length};
 ghost use Rattle.checks.specs.Crc.{crcOf};
 ghost use Rattle.records_pathfinder.specs.Replies.{replyOf, rowAfter, nameAfter};
 ghost use Rattle.requests_pathfinder.specs.Requests.{sentAs, roomAfter};
 ghost use Rattle.search_pathfinder.specs.Places.{searchOf};
-ghost use Rattle.exports.specs.Codes.{replyCode, writtenCode, placeCode};
+ghost use Rattle.rows_pathfinder.specs.Narrowing.{rowOf};
+ghost use Rattle.exports_rows.specs.Told.{codeOf, rowAfter as valueAfter, roomCode, over};
+ghost use Rattle.exports.specs.Codes.{replyCode, writtenCode, placeCode, tensOf, truthOf, toldRow};
 
 // CRC-16/XMODEM of the bytes.
 #[no_mangle]
@@ -33,6 +39,15 @@ pub extern "C" fn tracksaffron_pf_read(asked: u8, s: &[u8], row: &mut [i32], nam
     reply_number(read_reply(asked, s, row, name))
 }
 
+// Writes the Pathfinder request with this opcode, one that has no data.
+#[no_mangle]
+pub extern "C" fn tracksaffron_pf_ask(opcode: u8, out: &mut [u8]) -> u64
+    ensures answer { λ r. ⌜ r ≡ writtenCode (sentAs (Request.Ask opcode) (length (now (out .entry)))) ⌝ }
+    ensures room { λ r. ⌜ now (out .exit) ≡ roomAfter (sentAs (Request.Ask opcode) (length (now (out .entry)))) (Request.Ask opcode) (now (out .entry)) ⌝ }
+{
+    written_number(write_request(Request::Ask(opcode), out))
+}
+
 // Writes the request that sets a Pathfinder register.
 #[no_mangle]
 pub extern "C" fn tracksaffron_pf_write(register: u8, value: i32, out: &mut [u8]) -> u64
@@ -40,6 +55,15 @@ pub extern "C" fn tracksaffron_pf_write(register: u8, value: i32, out: &mut [u8]
     ensures room { λ r. ⌜ now (out .exit) ≡ roomAfter (sentAs (Request.Write register value) (length (now (out .entry)))) (Request.Write register value) (now (out .entry)) ⌝ }
 {
     written_number(write_request(Request::Write { register, value }, out))
+}
+
+// Narrows a word of a Pathfinder reply to its row's type; the value goes to the first place.
+#[no_mangle]
+pub extern "C" fn tracksaffron_pf_row(reply: u8, row: u8, word: i32, value: &mut [i64]) -> u64
+    ensures answer { λ r. ⌜ r ≡ codeOf (toldRow (rowOf reply row word)) (length (now (value .entry))) 0 ⌝ }
+    ensures filled { λ r. ⌜ now (value .exit) ≡ valueAfter (toldRow (rowOf reply row word)) (now (value .entry)) ⌝ }
+{
+    tell_row(narrow(reply, row, word), value)
 }
 
 // The place of the first Pathfinder frame in the bytes, or their number where there is none.
@@ -58,10 +82,10 @@ fn reply_number(r: Reply) -> u64
     ensures { λ n. ⌜ n ≡ replyCode r ⌝ }
 {
     match r {
-        Reply::Words(n) => coded(1, n as u64),
-        Reply::Name(n) => coded(2, n as u64),
+        Reply::Words(n) => coded(1, n),
+        Reply::Name(n) => coded(2, n),
         Reply::Written => coded(3, 0),
-        Reply::Failure(code) => coded(4, code as u64),
+        Reply::Failure(code) => coded(4, code as usize),
         Reply::Refused(r) => r.number as u64,
     }
 }
@@ -70,15 +94,43 @@ fn written_number(w: Written) -> u64
     ensures { λ n. ⌜ n ≡ writtenCode w ⌝ }
 {
     match w {
-        Written::Frame(n) => coded(1, n as u64),
+        Written::Frame(n) => coded(1, n),
         Written::Refused(r) => r.number as u64,
     }
 }
 
-// A kind of answer and its number in one: the number below 2 to the 32, the kind above it.
-fn coded(kind: u64, n: u64) -> u64
-    requires { ⌜ kind < 5 ⌝ }
-    ensures { λ r. ⌜ r ≡ kind * 4294967296 + n % 4294967296 ⌝ }
+fn tell_row(r: Row, value: &mut [i64]) -> u64
+    ensures answer { λ n. ⌜ n ≡ codeOf (toldRow r) (length (now (value .entry))) 0 ⌝ }
+    ensures filled { λ n. ⌜ now (value .exit) ≡ valueAfter (toldRow r) (now (value .entry)) ⌝ }
 {
-    kind * 4294967296 + n % 4294967296
+    match r {
+        Row::Number(v) => put_value(1, v, value),
+        Row::TenMillivolts(v) => put_value(2, wide(v), value),
+        Row::Truth(b) => put_value(3, bit(b), value),
+        Row::Missing => coded(4, 0),
+        Row::Refused(why) => why.number as u64,
+    }
+}
+
+fn put_value(kind: u8, v: i64, value: &mut [i64]) -> u64
+    ensures answer { λ n. ⌜ n ≡ roomCode kind 1 (length (now (value .entry))) ⌝ }
+    ensures filled { λ n. ⌜ now (value .exit) ≡ over (v ∷ []) (now (value .entry)) ⌝ }
+{
+    if value.len() < 1 {
+        return refusals::ROOM as u64;
+    }
+    value[0] = v;
+    coded(kind, 1)
+}
+
+fn wide(v: TenMillivolts) -> i64
+    ensures { λ r. ⌜ r ≡ tensOf v ⌝ }
+{
+    v.0 as i64
+}
+
+fn bit(b: bool) -> i64
+    ensures { λ r. ⌜ r ≡ truthOf b ⌝ }
+{
+    if b { 1 } else { 0 }
 }

@@ -1,4 +1,4 @@
-//! What one would write in Rust: the same tables and the same amount of work, with no proof.
+//! Pathfinder, and its checksum by the usual table, a byte at a time.
 
 /// The table of 256 entries, made when the program is compiled.
 static TABLE: [u16; 256] = table();
@@ -19,11 +19,10 @@ const fn table() -> [u16; 256] {
     t
 }
 
-/// CRC-16/XMODEM. Not inlined, as the other side's calls are not: both are calls of a library.
+/// CRC-16/XMODEM.
 #[inline(never)]
 pub fn crc16(s: &[u8]) -> u16 {
-    s.iter()
-        .fold(0, |r, &b| (r << 8) ^ TABLE[usize::from((r >> 8) as u8 ^ b)])
+    s.iter().fold(0, |r, &b| (r << 8) ^ TABLE[usize::from((r >> 8) as u8 ^ b)])
 }
 
 /// The data of a Pathfinder frame that answers `asked`.

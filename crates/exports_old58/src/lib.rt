@@ -1,0 +1,147 @@
+// The 58-byte monitor for other languages (`rt staticlib exports_old58`): numbers and slices only, safe with any input.
+// `specs/Records.antt` says at which place of the row each value stands.
+use exports_rows::byte;
+use exports_rows::coded;
+use exports_rows::half;
+use exports_rows::put_i32;
+use numbers::signed32;
+use old58::Cell;
+use old58::Current;
+use old58::Energy;
+use old58::Extremes;
+use old58::Pack;
+use old58::Reading;
+use old58::Record;
+use old58::Setup;
+use old58::read_record;
+ghost use mathlib.Core.Path.{_≡_};
+ghost use lib.ListN.{length};
+ghost use Rattle.old58.specs.Read.{readingOf};
+ghost use Rattle.exports_rows.specs.Told.{codeOf, rowAfter, roomCode, over};
+ghost use Rattle.exports_old58.specs.Records.{known, milliamps, packNumbers, extremesNumbers, cellNumbers, energyNumbers, setupNumbers, allNumbers, toldOf};
+
+// How many numbers a record has.
+const RECORD: usize = 32;
+
+// Reads a record; its values go to the front of the row.
+#[no_mangle]
+pub extern "C" fn tracksaffron_old_read(s: &[u8], row: &mut [i32]) -> u64
+    ensures answer { λ r. ⌜ r ≡ codeOf (toldOf (readingOf (now (s .entry)))) (length (now (row .entry))) 0 ⌝ }
+    ensures filled { λ r. ⌜ now (row .exit) ≡ rowAfter (toldOf (readingOf (now (s .entry)))) (now (row .entry)) ⌝ }
+{
+    let reading = read_record(s);
+    match reading {
+        Reading::Whole(r) => put_record(r, row),
+        Reading::Refused(why) => why.number as u64,
+    }
+}
+
+fn put_record(r: Record, row: &mut [i32]) -> u64
+    ensures answer { λ n. ⌜ n ≡ roomCode 1 (length (allNumbers r)) (length (now (row .entry))) ⌝ }
+    ensures filled { λ n. ⌜ now (row .exit) ≡ over (allNumbers r) (now (row .entry)) ⌝ }
+{
+    if row.len() < RECORD {
+        return refusals::ROOM as u64;
+    }
+    let pack = pack_numbers(r.pack);
+    let extremes = extremes_numbers(r.extremes);
+    let cell = cell_numbers(r.cell);
+    let energy = energy_numbers(r.energy);
+    let setup = setup_numbers(r.setup);
+    put_i32(&pack, 0, row);
+    put_i32(&extremes, 7, row);
+    put_i32(&cell, 15, row);
+    put_i32(&energy, 20, row);
+    put_i32(&setup, 26, row);
+    coded(1, RECORD)
+}
+
+fn pack_numbers(p: Pack) -> [i32; 7]
+    ensures { λ r. ⌜ r ≡ packNumbers p ⌝ }
+{
+    let first = p.current_ma;
+    let second = p.current2_ma;
+    let third = p.current3_ma;
+    [
+        signed32(p.total_mv),
+        is_known(first),
+        milliamps_of(first),
+        is_known(second),
+        milliamps_of(second),
+        is_known(third),
+        milliamps_of(third),
+    ]
+}
+
+// 1 where there is such a sensor, else 0.
+fn is_known(c: Current) -> i32
+    ensures { λ r. ⌜ r ≡ known c ⌝ }
+{
+    match c {
+        Current::Milliamps(_) => 1,
+        Current::Missing => 0,
+    }
+}
+
+// The current, 0 where there is none.
+fn milliamps_of(c: Current) -> i32
+    ensures { λ r. ⌜ r ≡ milliamps c ⌝ }
+{
+    match c {
+        Current::Milliamps(ma) => ma,
+        Current::Missing => 0,
+    }
+}
+
+fn extremes_numbers(e: Extremes) -> [i32; 8]
+    ensures { λ r. ⌜ r ≡ extremesNumbers e ⌝ }
+{
+    [
+        signed32(e.lowest_mv),
+        byte(e.lowest_cell),
+        signed32(e.highest_mv),
+        byte(e.highest_cell),
+        e.coldest_c,
+        byte(e.coldest_cell),
+        e.hottest_c,
+        byte(e.hottest_cell),
+    ]
+}
+
+fn cell_numbers(k: Cell) -> [i32; 5]
+    ensures { λ r. ⌜ r ≡ cellNumbers k ⌝ }
+{
+    [
+        byte(k.cell),
+        byte(k.cells),
+        signed32(k.cell_mv),
+        k.cell_c,
+        byte(k.status),
+    ]
+}
+
+fn energy_numbers(e: Energy) -> [i32; 6]
+    ensures { λ r. ⌜ r ≡ energyNumbers e ⌝ }
+{
+    [
+        signed32(e.collected_today_wh),
+        signed32(e.stored_wh),
+        signed32(e.consumed_today_wh),
+        byte(e.soc_percent),
+        signed32(e.collected_kwh),
+        signed32(e.consumed_kwh),
+    ]
+}
+
+fn setup_numbers(s: Setup) -> [i32; 6]
+    ensures { λ r. ⌜ r ≡ setupNumbers s ⌝ }
+{
+    [
+        byte(s.hour),
+        byte(s.minute),
+        half(s.capacity_100wh),
+        half(s.vmin_count),
+        half(s.vmax_count),
+        half(s.vbypass_count),
+    ]
+}

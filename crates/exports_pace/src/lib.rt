@@ -1,0 +1,238 @@
+// PACE for other languages (`rt staticlib exports_pace`): numbers and slices only, each call safe with any input.
+// `specs/Replies.antt` says which number an answer goes out as, and at which place of the row each of its values stands.
+use analog_pace::Analog;
+use exports_rows::byte;
+use exports_rows::coded;
+use exports_rows::half;
+use exports_rows::put_i32;
+use exports_rows::put_numbers;
+use exports_rows::put_text;
+use exports_rows::put_u8;
+use exports_rows::put_u16;
+use exports_rows::signed_half;
+use frames_pace::Written;
+use records_pace::Answer;
+use records_pace::Reply;
+use records_pace::read_reply;
+use requests_pace::Request;
+use requests_pace::write_request;
+use rows_pace::Values;
+use warnings_pace::Warnings;
+ghost use mathlib.Core.Path.{_≡_};
+ghost use lib.ListN.{length, take};
+ghost use Rattle.records_pace.specs.Reply.{replyOf};
+ghost use Rattle.exports_rows.specs.Told.{codeOf, rowAfter, textAfter, roomCode, over};
+ghost use Rattle.requests_pace.specs.Request.{writtenOf, roomAfter};
+ghost use Rattle.exports_pace.specs.Requests.{overvoltage, discharge, writtenCode};
+ghost use Rattle.exports_pace.specs.Replies.{analogNumbers, analogAll, warningNumbers, warningAll, valuesTold, toldAs, toldOf};
+
+// How many numbers the analog information and the warnings have, with their lists.
+const ANALOG: usize = 32;
+
+const WARNINGS: usize = 38;
+
+// Reads the reply to the PACE command asked of this address; its values go to the front of the row, its text to the front of the bytes.
+#[no_mangle]
+pub extern "C" fn tracksaffron_pace_read(
+    address: u8,
+    asked: u8,
+    s: &[u8],
+    row: &mut [i32],
+    text: &mut [u8],
+) -> u64
+    ensures answer { λ r. ⌜ r ≡ codeOf (toldOf (replyOf address asked (now (s .entry)))) (length (now (row .entry))) (length (now (text .entry))) ⌝ }
+    ensures filled { λ r. ⌜ now (row .exit) ≡ rowAfter (toldOf (replyOf address asked (now (s .entry)))) (now (row .entry)) ⌝ }
+    ensures copied { λ r. ⌜ now (text .exit) ≡ textAfter (toldOf (replyOf address asked (now (s .entry)))) (now (text .entry)) ⌝ }
+{
+    tell(read_reply(address, asked, s), row, text)
+}
+
+// Writes the PACE request with this command, one that carries no values.
+#[no_mangle]
+pub extern "C" fn tracksaffron_pace_ask(address: u8, command: u8, out: &mut [u8]) -> u64
+    ensures answer { λ r. ⌜ r ≡ writtenCode (writtenOf (Request.Ask address command) (now (out .entry))) ⌝ }
+    ensures room { λ r. ⌜ now (out .exit) ≡ roomAfter (writtenOf (Request.Ask address command) (now (out .entry))) (Request.Ask address command) (now (out .entry)) ⌝ }
+{
+    written_number(write_request(Request::Ask { address, command }, out))
+}
+
+// Writes the PACE request that sets the cells' overvoltage, in mV and 100 ms.
+#[no_mangle]
+pub extern "C" fn tracksaffron_pace_cell_overvoltage(
+    address: u8,
+    alarm: u16,
+    protect: u16,
+    release: u16,
+    delay: u8,
+    out: &mut [u8],
+) -> u64
+    ensures answer { λ r. ⌜ r ≡ writtenCode (writtenOf (overvoltage address alarm protect release delay) (now (out .entry))) ⌝ }
+    ensures room { λ r. ⌜ now (out .exit) ≡ roomAfter (writtenOf (overvoltage address alarm protect release delay) (now (out .entry))) (overvoltage address alarm protect release delay) (now (out .entry)) ⌝ }
+{
+    let values = Values::CellOvervoltage {
+        alarm_mv: alarm,
+        protect_mv: protect,
+        release_mv: release,
+        delay_100ms: delay,
+    };
+    written_number(write_request(Request::Set { address, values }, out))
+}
+
+// Writes the PACE request that sets the slow discharge current, in A and 100 ms.
+#[no_mangle]
+pub extern "C" fn tracksaffron_pace_slow_discharge(
+    address: u8,
+    alarm: u16,
+    protect: u16,
+    delay: u8,
+    out: &mut [u8],
+) -> u64
+    ensures answer { λ r. ⌜ r ≡ writtenCode (writtenOf (discharge address alarm protect delay) (now (out .entry))) ⌝ }
+    ensures room { λ r. ⌜ now (out .exit) ≡ roomAfter (writtenOf (discharge address alarm protect delay) (now (out .entry))) (discharge address alarm protect delay) (now (out .entry)) ⌝ }
+{
+    let values = Values::SlowDischarge {
+        alarm_a: alarm,
+        protect_a: protect,
+        delay_100ms: delay,
+    };
+    written_number(write_request(Request::Set { address, values }, out))
+}
+
+fn written_number(w: Written) -> u64
+    ensures { λ n. ⌜ n ≡ writtenCode w ⌝ }
+{
+    match w {
+        Written::Frame(n) => coded(1, n),
+        Written::Refused(r) => r.number as u64,
+    }
+}
+
+fn tell(r: Reply, row: &mut [i32], text: &mut [u8]) -> u64
+    ensures answer { λ n. ⌜ n ≡ codeOf (toldOf r) (length (now (row .entry))) (length (now (text .entry))) ⌝ }
+    ensures filled { λ n. ⌜ now (row .exit) ≡ rowAfter (toldOf r) (now (row .entry)) ⌝ }
+    ensures copied { λ n. ⌜ now (text .exit) ≡ textAfter (toldOf r) (now (text .entry)) ⌝ }
+{
+    let answer = r.answer;
+    let cells = r.cells;
+    let temperatures = r.temperatures;
+    let cell_warnings = r.cell_warnings;
+    let temperature_warnings = r.temperature_warnings;
+    let letters = r.text;
+    match answer {
+        Answer::Analog(a) => put_analog(a, cells, temperatures, row),
+        Answer::Warnings(w) => put_warnings(w, cell_warnings, temperature_warnings, row),
+        Answer::Hardware => put_letters(3, 20, letters, text),
+        Answer::Serial(n) => put_letters(4, n, letters, text),
+        Answer::Setting(v) => put_values(v, row),
+        Answer::Accepted => coded(7, 0),
+        Answer::DeviceFailure(code) => coded(8, code as usize),
+        Answer::Refused(why) => why.number as u64,
+    }
+}
+
+// The first n letters; all of them where there are fewer.
+fn put_letters(kind: u8, n: u8, letters: [u8; 40], text: &mut [u8]) -> u64
+    ensures answer { λ r. ⌜ r ≡ roomCode kind (length (take n letters)) (length (now (text .entry))) ⌝ }
+    ensures copied { λ r. ⌜ now (text .exit) ≡ over (take n letters) (now (text .entry)) ⌝ }
+{
+    if n < 40 {
+        let end = n as usize;
+        return put_text(kind, &letters[0..end], text);
+    }
+    put_text(kind, &letters, text)
+}
+
+// The values of a setting.
+fn put_values(v: Values, row: &mut [i32]) -> u64
+    ensures answer { λ n. ⌜ n ≡ codeOf (valuesTold v) (length (now (row .entry))) 0 ⌝ }
+    ensures filled { λ n. ⌜ now (row .exit) ≡ rowAfter (valuesTold v) (now (row .entry)) ⌝ }
+{
+    match v {
+        Values::CellOvervoltage {
+            alarm_mv,
+            protect_mv,
+            release_mv,
+            delay_100ms,
+        } => {
+            let numbers = [
+                half(alarm_mv),
+                half(protect_mv),
+                half(release_mv),
+                byte(delay_100ms),
+            ];
+            put_numbers(5, &numbers, row)
+        }
+        Values::SlowDischarge {
+            alarm_a,
+            protect_a,
+            delay_100ms,
+        } => {
+            let numbers = [half(alarm_a), half(protect_a), byte(delay_100ms)];
+            put_numbers(6, &numbers, row)
+        }
+    }
+}
+
+fn put_analog(a: Analog, cells: [u16; 16], temperatures: [i32; 8], row: &mut [i32]) -> u64
+    ensures answer { λ n. ⌜ n ≡ roomCode 1 (length (analogAll a cells temperatures)) (length (now (row .entry))) ⌝ }
+    ensures filled { λ n. ⌜ now (row .exit) ≡ over (analogAll a cells temperatures) (now (row .entry)) ⌝ }
+{
+    if row.len() < ANALOG {
+        return refusals::ROOM as u64;
+    }
+    let numbers = analog_numbers(a);
+    put_i32(&numbers, 0, row);
+    put_u16(&cells, 8, row);
+    put_i32(&temperatures, 24, row);
+    coded(1, ANALOG)
+}
+
+fn analog_numbers(a: Analog) -> [i32; 8]
+    ensures { λ r. ⌜ r ≡ analogNumbers a ⌝ }
+{
+    [
+        byte(a.cells),
+        byte(a.temperatures),
+        signed_half(a.current_10ma),
+        half(a.total_mv),
+        half(a.remaining_10mah),
+        half(a.full_10mah),
+        half(a.cycles),
+        half(a.design_10mah),
+    ]
+}
+
+fn put_warnings(w: Warnings, cells: [u8; 16], temperatures: [u8; 8], row: &mut [i32]) -> u64
+    ensures answer { λ n. ⌜ n ≡ roomCode 2 (length (warningAll w cells temperatures)) (length (now (row .entry))) ⌝ }
+    ensures filled { λ n. ⌜ now (row .exit) ≡ over (warningAll w cells temperatures) (now (row .entry)) ⌝ }
+{
+    if row.len() < WARNINGS {
+        return refusals::ROOM as u64;
+    }
+    let numbers = warning_numbers(w);
+    put_i32(&numbers, 0, row);
+    put_u8(&cells, 14, row);
+    put_u8(&temperatures, 30, row);
+    coded(2, WARNINGS)
+}
+
+fn warning_numbers(w: Warnings) -> [i32; 14]
+    ensures { λ r. ⌜ r ≡ warningNumbers w ⌝ }
+{
+    [
+        byte(w.cells),
+        byte(w.temperatures),
+        byte(w.charge_current),
+        byte(w.total_voltage),
+        byte(w.discharge_current),
+        byte(w.protection1),
+        byte(w.protection2),
+        byte(w.system),
+        byte(w.configuration),
+        byte(w.fault),
+        byte(w.balance_high),
+        byte(w.balance_low),
+        byte(w.warning1),
+        byte(w.warning2),
+    ]
+}

@@ -1,0 +1,62 @@
+-- A restore's job in 262 bytes: the 50 words of its picture and the 15 wanted values, four bytes each with the low one first, then a byte for the
+-- phase (0 ready, 1 waiting, 2 stopped) and one for the register waited for, 0 in the other phases.
+-- Assumes nothing.
+use Prim.Native.Nat.{ℕ}
+use mathlib.Core.Bool.{Bool, _&&_}
+use mathlib.Core.List.{List, [], _∷_, _++_}
+use lib.Dec.{leb, eqb}
+use lib.IntN.{ℤ}
+use lib.ListN.{length, getD, take, drop}
+use Rattle.laws.specs.Choice.{pick}
+use Rattle.numbers.specs.declared.Order.the-variants.{LowFirst}
+use Rattle.numbers.specs.Bytes.{bytesOf}
+use Rattle.numbers.specs.Signed.{bitsOf}
+use Rattle.records_pathfinder.specs.Words.{words}
+use Rattle.restore_pathfinder.specs.declared.Phase.{Phase}
+use Rattle.restore_pathfinder.specs.declared.Phase.the-variants.{Ready, Waiting, Stopped}
+use Rattle.restore_pathfinder.specs.declared.Job.{Job}
+
+-- ---- written
+
+abbrev pub valueBytes : ℤ → List ℕ
+valueBytes v = bytesOf LowFirst 4 (bitsOf 32 v)
+
+unfoldable pub wordBytes : List ℤ → List ℕ
+wordBytes [] = []
+wordBytes (v ∷ vs) = valueBytes v ++ wordBytes vs
+
+abbrev pub phaseByte : Phase → ℕ
+phaseByte Ready = 0
+phaseByte (Waiting r) = 1
+phaseByte Stopped = 2
+
+abbrev pub registerByte : Phase → ℕ
+registerByte Ready = 0
+registerByte (Waiting r) = r
+registerByte Stopped = 0
+
+abbrev pub phaseBytes : Phase → List ℕ
+phaseBytes p = phaseByte p ∷ registerByte p ∷ []
+
+unfoldable pub jobBytes : Job → List ℕ
+jobBytes j = wordBytes (j .present) ++ wordBytes (j .wanted) ++ phaseBytes (j .phase)
+
+-- ---- read
+
+abbrev pub sized : List ℕ → Bool
+sized b = eqb (length b) 262
+
+-- so many bytes, and one of the three phases
+unfoldable pub isJob : List ℕ → Bool
+isJob b = sized b && leb (getD b 260 0) 2
+
+unfoldable pub phaseIn : ℕ → ℕ → Phase
+phaseIn p r = pick (eqb p 0) Ready (pick (eqb p 1) (Waiting r) Stopped)
+
+unfoldable pub jobOf : List ℕ → Job
+jobOf b =
+    record {
+      present = words 50 (take 200 b);
+      wanted = words 15 (take 60 (drop 200 b));
+      phase = phaseIn (getD b 260 0) (getD b 261 0);
+    }

@@ -1,0 +1,4 @@
+pub mod Placing
+pub mod Same
+pub mod Telling
+pub mod Widening

@@ -1,0 +1,132 @@
+// Answers for languages that share no enum and no struct: one number for the answer, a lent row of numbers for its values, lent bytes for
+// its text. `specs/Told.antt` says which number and which values; the crates `exports` and `exports_*` say it for each device.
+ghost use mathlib.Core.Path.{_≡_};
+ghost use mathlib.Core.List.{map};
+ghost use lib.IntN.{pos};
+ghost use lib.ListN.{length};
+ghost use Rattle.exports_rows.specs.Told.{codedAs, roomCode, over, placed};
+
+// A kind of answer and its number in one: the number below 2 to the 32, the kind above it.
+pub fn coded(kind: u8, n: usize) -> u64
+    ensures { λ r. ⌜ r ≡ codedAs kind n ⌝ }
+{
+    (kind as u64) * 4294967296 + (n as u64) % 4294967296
+}
+
+// An answer of this kind whose values are these numbers: they go to the front of the row.
+pub fn put_numbers(kind: u8, numbers: &[i32], row: &mut [i32]) -> u64
+    ensures answer { λ r. ⌜ r ≡ roomCode kind (length (now (numbers .entry))) (length (now (row .entry))) ⌝ }
+    ensures filled { λ r. ⌜ now (row .exit) ≡ over (now (numbers .entry)) (now (row .entry)) ⌝ }
+{
+    if row.len() < numbers.len() {
+        return refusals::ROOM as u64;
+    }
+    put_i32(numbers, 0, row);
+    coded(kind, numbers.len())
+}
+
+// An answer of this kind whose text this is: it goes to the front of the bytes.
+pub fn put_text(kind: u8, text: &[u8], out: &mut [u8]) -> u64
+    ensures answer { λ r. ⌜ r ≡ roomCode kind (length (now (text .entry))) (length (now (out .entry))) ⌝ }
+    ensures copied { λ r. ⌜ now (out .exit) ≡ over (now (text .entry)) (now (out .entry)) ⌝ }
+{
+    if out.len() < text.len() {
+        return refusals::ROOM as u64;
+    }
+    bytes::copy(text, out);
+    coded(kind, text.len())
+}
+
+// The numbers from the place `at` of the row on; where the row ends before, nothing.
+pub fn put_i32(numbers: &[i32], at: usize, row: &mut [i32])
+    ensures { λ _. ⌜ now (row .exit) ≡ placed at (now (numbers .entry)) (now (row .entry)) ⌝ }
+{
+    if row.len() < at {
+        return;
+    }
+    if row.len() - at < numbers.len() {
+        return;
+    }
+    let mut i = 0;
+    while i < numbers.len() {
+        let v = numbers[i];
+        row[at + i] = v;
+        i += 1;
+    }
+}
+
+// The same of signed bytes.
+pub fn put_i8(numbers: &[i8], at: usize, row: &mut [i32])
+    ensures { λ _. ⌜ now (row .exit) ≡ placed at (now (numbers .entry)) (now (row .entry)) ⌝ }
+{
+    if row.len() < at {
+        return;
+    }
+    if row.len() - at < numbers.len() {
+        return;
+    }
+    let mut i = 0;
+    while i < numbers.len() {
+        row[at + i] = signed(numbers[i]);
+        i += 1;
+    }
+}
+
+// The same of bytes.
+pub fn put_u8(numbers: &[u8], at: usize, row: &mut [i32])
+    ensures { λ _. ⌜ now (row .exit) ≡ placed at (map pos (now (numbers .entry))) (now (row .entry)) ⌝ }
+{
+    if row.len() < at {
+        return;
+    }
+    if row.len() - at < numbers.len() {
+        return;
+    }
+    let mut i = 0;
+    while i < numbers.len() {
+        row[at + i] = byte(numbers[i]);
+        i += 1;
+    }
+}
+
+// The same of numbers of 16 bits.
+pub fn put_u16(numbers: &[u16], at: usize, row: &mut [i32])
+    ensures { λ _. ⌜ now (row .exit) ≡ placed at (map pos (now (numbers .entry))) (now (row .entry)) ⌝ }
+{
+    if row.len() < at {
+        return;
+    }
+    if row.len() - at < numbers.len() {
+        return;
+    }
+    let mut i = 0;
+    while i < numbers.len() {
+        row[at + i] = half(numbers[i]);
+        i += 1;
+    }
+}
+
+// One value as a number of the row.
+pub fn byte(b: u8) -> i32
+    ensures { λ r. ⌜ r ≡ pos b ⌝ }
+{
+    b as i32
+}
+
+pub fn half(h: u16) -> i32
+    ensures { λ r. ⌜ r ≡ pos h ⌝ }
+{
+    h as i32
+}
+
+pub fn signed(v: i8) -> i32
+    ensures { λ r. ⌜ r ≡ v ⌝ }
+{
+    v as i32
+}
+
+pub fn signed_half(w: i16) -> i32
+    ensures { λ r. ⌜ r ≡ w ⌝ }
+{
+    w as i32
+}

@@ -1,0 +1,261 @@
+/* Every call of tracksaffron.h from C, once with an answer that the documents give and again with lengths that are wrong (tests/bindings).
+ * Prints what does not hold; the exit status says whether all did. */
+#include "tracksaffron.h"
+
+#include <stdio.h>
+#include <string.h>
+
+static int failures;
+
+#define CHECK(fact)                                                                                                                          \
+    do {                                                                                                                                     \
+        if (!(fact)) {                                                                                                                       \
+            printf("%s:%d: %s\n", __FILE__, __LINE__, #fact);                                                                                \
+            failures++;                                                                                                                      \
+        }                                                                                                                                    \
+    } while (0)
+
+#define ANSWER(kind, number) (((uint64_t)(kind) << 32) + (number))
+
+/* Bytes that no call may touch where it refuses. */
+static int untouched(const void *lent, size_t bytes) {
+    const uint8_t *b = lent;
+    for (size_t i = 0; i < bytes; i++)
+        if (b[i] != 0xA5)
+            return 0;
+    return 1;
+}
+
+#define FRESH(lent) memset((lent), 0xA5, sizeof(lent))
+
+static void pathfinder(void) {
+    static const uint8_t set[] = {0xFE, 0x06, 0x0E, 0x03, 0x38, 0x00, 0x00, 0x00, 0x66, 0x7E, 0xFD};
+    uint8_t out[16], name[4];
+    int32_t row[3];
+    int64_t value[1];
+
+    CHECK(tracksaffron_crc16((const uint8_t *)"\x01\x05", 2) == 0x6394);
+    CHECK(tracksaffron_crc16(out, 0) == 0);
+
+    FRESH(out);
+    CHECK(tracksaffron_pf_write(3, 56, out, sizeof out) == ANSWER(TRACKSAFFRON_FRAME, 11));
+    CHECK(memcmp(out, set, sizeof set) == 0 && untouched(out + 11, 5));
+    FRESH(out);
+    CHECK(tracksaffron_pf_write(3, 56, out, 10) == TRACKSAFFRON_REFUSED_ROOM);
+    CHECK(tracksaffron_pf_write(3, 128, out, 0) == TRACKSAFFRON_REFUSED_RANGE);
+    CHECK(tracksaffron_pf_write(15, 0, out, sizeof out) == TRACKSAFFRON_REFUSED_REGISTER);
+    CHECK(untouched(out, sizeof out));
+
+    CHECK(tracksaffron_pf_ask(5, out, sizeof out) == ANSWER(TRACKSAFFRON_FRAME, 6));
+    CHECK(memcmp(out, "\xFE\x01\x05\x63\x94\xFD", 6) == 0);
+    CHECK(tracksaffron_pf_ask(6, out, sizeof out) == TRACKSAFFRON_REFUSED_REQUEST);
+    CHECK(tracksaffron_pf_ask(5, out, 5) == TRACKSAFFRON_REFUSED_ROOM);
+
+    /* The frame of 05 without data is also the reply with an empty name. */
+    FRESH(row);
+    FRESH(name);
+    CHECK(tracksaffron_pf_ask(5, out, sizeof out) == ANSWER(TRACKSAFFRON_FRAME, 6));
+    CHECK(tracksaffron_pf_read(5, out, 6, row, 3, name, 4) == ANSWER(TRACKSAFFRON_PF_NAME, 0));
+    CHECK(tracksaffron_pf_read(1, out, 6, row, 3, name, 4) == TRACKSAFFRON_REFUSED_REQUEST);
+    CHECK(tracksaffron_pf_read(5, out, 0, row, 0, name, 0) == TRACKSAFFRON_REFUSED_SHORT);
+    CHECK(untouched(row, sizeof row) && untouched(name, sizeof name));
+
+    /* Reply 01: the words 1, 2 and -20. */
+    uint8_t reply[18] = {0xFE, 13, 0x01, 1, 0, 0, 0, 2, 0, 0, 0, 0xEC, 0xFF, 0xFF, 0xFF};
+    uint16_t sum = tracksaffron_crc16(reply + 1, 14);
+    reply[15] = sum >> 8;
+    reply[16] = sum & 0xFF;
+    reply[17] = 0xFD;
+    CHECK(tracksaffron_pf_read(1, reply, sizeof reply, row, 2, name, 4) == TRACKSAFFRON_REFUSED_ROOM);
+    CHECK(untouched(row, sizeof row));
+    CHECK(tracksaffron_pf_read(1, reply, sizeof reply, row, 3, name, 4) == ANSWER(TRACKSAFFRON_PF_WORDS, 3));
+    CHECK(row[0] == 1 && row[1] == 2 && row[2] == -20);
+
+    FRESH(value);
+    CHECK(tracksaffron_pf_row(3, 10, 255, value, 1) == ANSWER(TRACKSAFFRON_PF_ROW_MISSING, 0));
+    CHECK(tracksaffron_pf_row(1, 0, -20, value, 0) == TRACKSAFFRON_REFUSED_ROOM);
+    CHECK(tracksaffron_pf_row(5, 0, -20, value, 1) == TRACKSAFFRON_REFUSED_REQUEST);
+    CHECK(tracksaffron_pf_row(1, 3, -20, value, 1) == TRACKSAFFRON_REFUSED_SHAPE);
+    CHECK(untouched(value, sizeof value));
+    CHECK(tracksaffron_pf_row(1, 0, -20, value, 1) == ANSWER(TRACKSAFFRON_PF_ROW_NUMBER, 1) && value[0] == -20);
+    CHECK(tracksaffron_pf_row(3, 0, 5000, value, 1) == ANSWER(TRACKSAFFRON_PF_ROW_TEN_MILLIVOLTS, 1) && value[0] == 5000);
+    CHECK(tracksaffron_pf_row(2, 43, 7, value, 1) == ANSWER(TRACKSAFFRON_PF_ROW_TRUTH, 1) && value[0] == 1);
+
+    uint8_t log[32] = "log \xFE text ";
+    memcpy(log + 11, set, sizeof set);
+    CHECK(tracksaffron_pf_find(log, sizeof log) == 11);
+    CHECK(tracksaffron_pf_find(log, 21) == 21);
+    CHECK(tracksaffron_pf_find(log, 0) == 0);
+}
+
+static void tongzhu(void) {
+    static const uint8_t two[] = {0x7F, 0x10, 0x02, 0x1B, 0x11, 0x01, 0x00, 0x00, 0x00, 0x14, 0x00, 0x45, 0x10, 0x33,
+                                  0x10, 0x1D, 0x15, 0x1E, 0x1E, 0x00, 0x00, 0xC2, 0x01, 0xF4, 0x01, 0xC0, 0xB0};
+    static const uint8_t three[] = {0x7F, 0x10, 0x02, 0x3B, 0x12, 0x01, 0x00, 0x00, 0x00, 0x10, 0x00, 0x10, 0xA6, 0x0D, 0xEB,
+                                    0x0D, 0xC3, 0x0D, 0xB9, 0x0D, 0xC2, 0x0D, 0xF6, 0x0D, 0xEA, 0x0D, 0xE5, 0x0D, 0x05, 0x0E,
+                                    0xE7, 0x0D, 0xE5, 0x0D, 0xEC, 0x0D, 0x05, 0x0E, 0xF4, 0x0D, 0xE2, 0x0D, 0xE4, 0x0D, 0x00,
+                                    0x00, 0x02, 0x11, 0x12, 0x01, 0x11, 0x03, 0x00, 0x78, 0x00, 0xC8, 0x00, 0xC0, 0xE5};
+    int32_t row[TRACKSAFFRON_TZ3_NUMBERS];
+    uint8_t out[16];
+
+    FRESH(row);
+    CHECK(tracksaffron_tz_read(0x11, two, sizeof two, row, 13) == TRACKSAFFRON_REFUSED_ROOM);
+    CHECK(tracksaffron_tz_read(0x12, two, sizeof two, row, 80) == TRACKSAFFRON_REFUSED_REQUEST);
+    CHECK(tracksaffron_tz_read(0x11, two, sizeof two - 1, row, 80) == TRACKSAFFRON_REFUSED_LENGTH);
+    CHECK(tracksaffron_tz_read(0x11, two, 0, row, 0) == TRACKSAFFRON_REFUSED_SHORT);
+    CHECK(tracksaffron_tz_read(0x12, three, sizeof three, row, 79) == TRACKSAFFRON_REFUSED_ROOM);
+    CHECK(untouched(row, sizeof row));
+    CHECK(tracksaffron_tz_read(0x11, two, sizeof two, row, 80) == ANSWER(TRACKSAFFRON_TZ_MONITOR2, TRACKSAFFRON_TZ2_NUMBERS));
+    CHECK(row[TRACKSAFFRON_TZ2_STATUS] == 1 && row[TRACKSAFFRON_TZ2_CURRENT_100MA] == 20 && row[TRACKSAFFRON_TZ2_HIGHEST_MV] == 4165);
+    CHECK(row[TRACKSAFFRON_TZ2_TOTAL_10MV] == 5405 && row[TRACKSAFFRON_TZ2_REMAINING_100MAH] == 450 && row[TRACKSAFFRON_TZ2_SWITCH] == 192);
+    CHECK(untouched(row + TRACKSAFFRON_TZ2_NUMBERS, sizeof row - 4 * TRACKSAFFRON_TZ2_NUMBERS));
+
+    CHECK(tracksaffron_tz_read(0x12, three, sizeof three, row, 80) == ANSWER(TRACKSAFFRON_TZ_MONITOR3, TRACKSAFFRON_TZ3_NUMBERS));
+    CHECK(row[TRACKSAFFRON_TZ3_CELL_COUNT] == 16 && row[TRACKSAFFRON_TZ3_SENSOR_COUNT] == 2 && row[TRACKSAFFRON_TZ3_MOSFET_COUNT] == 1);
+    CHECK(row[TRACKSAFFRON_TZ3_CELLS_MV] == 0x0DA6 && row[TRACKSAFFRON_TZ3_CELLS_MV + 15] == 0x0DE4 && row[TRACKSAFFRON_TZ3_CELLS_MV + 16] == 0);
+    CHECK(row[TRACKSAFFRON_TZ3_SENSORS_C + 1] == 18 && row[TRACKSAFFRON_TZ3_MOSFETS_C] == 17 && row[TRACKSAFFRON_TZ3_CAPACITY_100MAH] == 200);
+
+    CHECK(tracksaffron_tz_ask(0x12, out, sizeof out) == ANSWER(TRACKSAFFRON_FRAME, 6));
+    CHECK(memcmp(out, "\x7F\x10\x02\x06\x12\x57", 6) == 0);
+    CHECK(tracksaffron_tz_ask(0x12, out, 5) == TRACKSAFFRON_REFUSED_ROOM);
+    CHECK(tracksaffron_tz_ask(0x30, out, 0) == TRACKSAFFRON_REFUSED_SHAPE);
+    CHECK(tracksaffron_tz_set_time(17, 5, 12, 10, 30, 50, out, sizeof out) == ANSWER(TRACKSAFFRON_FRAME, 12));
+    CHECK(memcmp(out, "\x7F\x10\x02\x0C\x30\x17\x05\x12\x10\x30\x50\x75", 12) == 0);
+    CHECK(tracksaffron_tz_set_time(23, 2, 29, 0, 0, 0, out, sizeof out) == TRACKSAFFRON_REFUSED_RANGE);
+    CHECK(tracksaffron_tz_set_time(24, 2, 29, 0, 0, 0, out, 11) == TRACKSAFFRON_REFUSED_ROOM);
+}
+
+/* A PACE reply of address 1 with this INFO. */
+static size_t pace_reply(const char *info, uint8_t *out) {
+    unsigned count = strlen(info), digits = (count >> 8) + (count >> 4 & 15) + (count & 15), sum = 0;
+    int n = sprintf((char *)out, "~25014600%X%03X%s", (16 - digits % 16) % 16, count, info);
+    for (int i = 1; i < n; i++)
+        sum += out[i];
+    return n + sprintf((char *)out + n, "%04X\r", -sum & 0xFFFF);
+}
+
+static void pace(void) {
+    uint8_t out[64], text[40], reply[160];
+    int32_t row[TRACKSAFFRON_PACE_W_NUMBERS];
+    size_t n;
+
+    CHECK(tracksaffron_pace_ask(1, 0x42, out, sizeof out) == ANSWER(TRACKSAFFRON_FRAME, 20));
+    CHECK(memcmp(out, "~25014642E00201FD30\r", 20) == 0);
+    CHECK(tracksaffron_pace_ask(1, 0x42, out, 19) == TRACKSAFFRON_REFUSED_ROOM);
+    CHECK(tracksaffron_pace_ask(1, 0xD0, out, 0) == TRACKSAFFRON_REFUSED_SHAPE);
+    CHECK(tracksaffron_pace_cell_overvoltage(1, 3600, 3700, 3500, 20, out, sizeof out) == ANSWER(TRACKSAFFRON_FRAME, 34));
+    CHECK(tracksaffron_pace_cell_overvoltage(1, 3601, 3700, 3500, 20, out, sizeof out) == TRACKSAFFRON_REFUSED_RANGE);
+    CHECK(tracksaffron_pace_slow_discharge(1, 100, 105, 10, out, sizeof out) == ANSWER(TRACKSAFFRON_FRAME, 30));
+    CHECK(memcmp(out + 13, "01006400690A", 12) == 0);
+    CHECK(tracksaffron_pace_slow_discharge(1, 0, 105, 10, out, 0) == TRACKSAFFRON_REFUSED_RANGE);
+
+    FRESH(row);
+    FRESH(text);
+    n = pace_reply("01FF9CFF970A", reply);
+    CHECK(tracksaffron_pace_read(1, 0xDB, reply, n, row, 2, text, 0) == TRACKSAFFRON_REFUSED_ROOM);
+    CHECK(tracksaffron_pace_read(2, 0xDB, reply, n, row, 38, text, 40) == TRACKSAFFRON_REFUSED_ADDRESS);
+    CHECK(tracksaffron_pace_read(1, 0xDB, reply, n - 1, row, 38, text, 40) == TRACKSAFFRON_REFUSED_LAST_MARK);
+    CHECK(tracksaffron_pace_read(1, 0xDB, reply, 0, row, 0, text, 0) == TRACKSAFFRON_REFUSED_SHORT);
+    CHECK(untouched(row, sizeof row) && untouched(text, sizeof text));
+    CHECK(tracksaffron_pace_read(1, 0xDB, reply, n, row, 38, text, 40) == ANSWER(TRACKSAFFRON_PACE_SLOW_DISCHARGE, 3));
+    CHECK(row[0] == 100 && row[1] == 105 && row[2] == 10);
+
+    n = pace_reply("0001020D480D49010B9BFF9C1A9003E803138800021388", reply);
+    CHECK(tracksaffron_pace_read(1, 0x42, reply, n, row, 32, text, 0) == ANSWER(TRACKSAFFRON_PACE_ANALOG, TRACKSAFFRON_PACE_A_NUMBERS));
+    CHECK(row[TRACKSAFFRON_PACE_A_CELL_COUNT] == 2 && row[TRACKSAFFRON_PACE_A_TEMPERATURE_COUNT] == 1);
+    CHECK(row[TRACKSAFFRON_PACE_A_CURRENT_10MA] == -100 && row[TRACKSAFFRON_PACE_A_TOTAL_MV] == 6800);
+    CHECK(row[TRACKSAFFRON_PACE_A_CELLS_MV + 1] == 3401 && row[TRACKSAFFRON_PACE_A_CELLS_MV + 2] == 0);
+    CHECK(row[TRACKSAFFRON_PACE_A_TEMPERATURES_DC] == 241 && row[TRACKSAFFRON_PACE_A_DESIGN_10MAH] == 5000);
+
+    n = pace_reply("0001010001020B0102030405060708090A0B0C", reply);
+    CHECK(tracksaffron_pace_read(1, 0x44, reply, n, row, 38, text, 0) == TRACKSAFFRON_REFUSED_SHAPE);
+    n = pace_reply("0001010701020102030405060708090A0B0C", reply);
+    CHECK(tracksaffron_pace_read(1, 0x44, reply, n, row, 38, text, 0) == ANSWER(TRACKSAFFRON_PACE_WARNINGS, TRACKSAFFRON_PACE_W_NUMBERS));
+    CHECK(row[TRACKSAFFRON_PACE_W_CELLS] == 7 && row[TRACKSAFFRON_PACE_W_TEMPERATURES] == 2 && row[TRACKSAFFRON_PACE_W_WARNING2] == 12);
+
+    n = pace_reply("303132333435363738394142434445464748494A", reply);
+    CHECK(tracksaffron_pace_read(1, 0xC1, reply, n, row, 0, text, 19) == TRACKSAFFRON_REFUSED_ROOM);
+    CHECK(untouched(text, sizeof text));
+    CHECK(tracksaffron_pace_read(1, 0xC1, reply, n, row, 0, text, 40) == ANSWER(TRACKSAFFRON_PACE_HARDWARE, 20));
+    CHECK(memcmp(text, "0123456789ABCDEFGHIJ", 20) == 0 && untouched(text + 20, 20));
+    CHECK(tracksaffron_pace_read(1, 0xC2, reply, n, row, 0, text, 40) == ANSWER(TRACKSAFFRON_PACE_SERIAL, 20));
+    CHECK(tracksaffron_pace_read(1, 0xD0, reply, pace_reply("", reply), row, 0, text, 0) == ANSWER(TRACKSAFFRON_PACE_ACCEPTED, 0));
+}
+
+static void old58(void) {
+    uint8_t record[59] = {0};
+    int32_t row[TRACKSAFFRON_OLD_NUMBERS];
+
+    /* 12.8 V, 32 A of charge, -32 A, no third sensor; the coldest is 276 counts, 0 degrees. */
+    memcpy(record, "\x00\x0A\x00+\x01\x00-\x01\x00X\x00\x00", 12);
+    record[18] = 0x01;
+    record[19] = 0x14;
+    record[47] = 7;
+    record[48] = 45;
+    for (int i = 0; i < 57; i++)
+        record[57] += record[i];
+    FRESH(row);
+    CHECK(tracksaffron_old_read(record, 58, row, 31) == TRACKSAFFRON_REFUSED_ROOM);
+    CHECK(tracksaffron_old_read(record, 57, row, 32) == TRACKSAFFRON_REFUSED_SHORT);
+    CHECK(tracksaffron_old_read(record, 59, row, 32) == TRACKSAFFRON_REFUSED_LENGTH);
+    CHECK(tracksaffron_old_read(record, 0, row, 0) == TRACKSAFFRON_REFUSED_SHORT);
+    CHECK(untouched(row, sizeof row));
+    CHECK(tracksaffron_old_read(record, 58, row, 32) == ANSWER(TRACKSAFFRON_OLD_RECORD, TRACKSAFFRON_OLD_NUMBERS));
+    CHECK(row[TRACKSAFFRON_OLD_TOTAL_MV] == 12800 && row[TRACKSAFFRON_OLD_CURRENT_MA] == 32000 && row[TRACKSAFFRON_OLD_CURRENT2_MA] == -32000);
+    CHECK(row[TRACKSAFFRON_OLD_CURRENT_KNOWN] == 1 && row[TRACKSAFFRON_OLD_CURRENT3_KNOWN] == 0 && row[TRACKSAFFRON_OLD_CURRENT3_MA] == 0);
+    CHECK(row[TRACKSAFFRON_OLD_COLDEST_C] == 0 && row[TRACKSAFFRON_OLD_HOUR] == 7 && row[TRACKSAFFRON_OLD_MINUTE] == 45);
+}
+
+static void restore(void) {
+    uint8_t job[TRACKSAFFRON_JOB_BYTES], kept[TRACKSAFFRON_JOB_BYTES], out[16];
+    uint8_t reply[6] = {0xFE, 0x01, 0x0E, 0, 0, 0xFD};
+    int32_t present[50] = {1000, 10, 4, 55, 50, 5, 0, 40, 5, 50, 0, 5, 0, 40, 5}, wanted[15];
+
+    /* P11: 55, 50 to 45, 40 writes 4, then 3. */
+    memcpy(wanted, present, sizeof wanted);
+    wanted[3] = 45;
+    wanted[4] = 40;
+    uint16_t sum = tracksaffron_crc16(reply + 1, 2);
+    reply[3] = sum >> 8;
+    reply[4] = sum & 0xFF;
+
+    FRESH(job);
+    FRESH(out);
+    CHECK(tracksaffron_restore_open(present, 50, wanted, 15, job, 261) == TRACKSAFFRON_REFUSED_SHAPE);
+    CHECK(tracksaffron_restore_open(present, 49, wanted, 15, job, 262) == TRACKSAFFRON_REFUSED_SHAPE);
+    CHECK(tracksaffron_restore_next(job, 262, out, sizeof out) == TRACKSAFFRON_REFUSED_SHAPE);
+    CHECK(tracksaffron_restore_next(job, 0, out, 0) == TRACKSAFFRON_REFUSED_SHAPE);
+    CHECK(tracksaffron_restore_reply(job, 262, reply, 6) == TRACKSAFFRON_REFUSED_SHAPE);
+    CHECK(tracksaffron_restore_left(job, 262) == TRACKSAFFRON_REFUSED_SHAPE);
+    CHECK(untouched(job, sizeof job) && untouched(out, sizeof out));
+
+    CHECK(tracksaffron_restore_open(present, 50, wanted, 15, job, 262) == ANSWER(TRACKSAFFRON_RESTORE_OPENED, 0));
+    CHECK(tracksaffron_restore_left(job, 262) == ANSWER(1, 2));
+    memcpy(kept, job, sizeof job);
+    CHECK(tracksaffron_restore_reply(job, 262, reply, 6) == TRACKSAFFRON_REFUSED_TURN);
+    CHECK(tracksaffron_restore_next(job, 262, out, 10) == TRACKSAFFRON_REFUSED_ROOM);
+    CHECK(memcmp(job, kept, sizeof job) == 0 && untouched(out, sizeof out));
+    CHECK(tracksaffron_restore_next(job, 262, out, sizeof out) == ANSWER(TRACKSAFFRON_RESTORE_FRAME, 11) && out[3] == 4 && out[4] == 40);
+    CHECK(tracksaffron_restore_next(job, 262, out, sizeof out) == TRACKSAFFRON_REFUSED_TURN);
+    CHECK(tracksaffron_restore_reply(job, 262, reply, 5) == TRACKSAFFRON_REFUSED_SHORT);
+    CHECK(tracksaffron_restore_reply(job, 262, reply, 6) == ANSWER(TRACKSAFFRON_RESTORE_WRITTEN, 0));
+    CHECK(tracksaffron_restore_next(job, 262, out, sizeof out) == ANSWER(TRACKSAFFRON_RESTORE_FRAME, 11) && out[3] == 3 && out[4] == 45);
+    CHECK(tracksaffron_restore_reply(job, 262, reply, 6) == ANSWER(TRACKSAFFRON_RESTORE_WRITTEN, 0));
+    CHECK(tracksaffron_restore_next(job, 262, out, sizeof out) == ANSWER(TRACKSAFFRON_RESTORE_DONE, 0));
+    CHECK(tracksaffron_restore_left(job, 262) == ANSWER(1, 0));
+    wanted[3] = 40;
+    memcpy(kept, job, sizeof job);
+    CHECK(tracksaffron_restore_open(present, 50, wanted, 15, job, 262) == TRACKSAFFRON_REFUSED_WANTED_PAIR);
+    CHECK(memcmp(job, kept, sizeof job) == 0);
+}
+
+int main(void) {
+    pathfinder();
+    tongzhu();
+    pace();
+    old58();
+    restore();
+    if (failures == 0)
+        puts("every call holds from C");
+    return failures != 0;
+}

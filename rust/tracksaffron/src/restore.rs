@@ -1,0 +1,71 @@
+//! The restore of Pathfinder settings 0 to 14. Its job lives in bytes, which may be stored and taken up again.
+
+use crate::calls::*;
+use crate::{told, unlisted, Result};
+
+/// How many bytes a job has.
+pub const BYTES: usize = 262;
+
+/// A restore that was opened.
+#[derive(Clone, Debug, PartialEq, Eq)]
+pub struct Job(pub [u8; BYTES]);
+
+#[derive(Clone, Copy, Debug, PartialEq, Eq)]
+pub enum Step {
+    /// A frame of so many bytes stands at the front of the room; its reply is due.
+    Frame(usize),
+    /// No setting differs any more.
+    Done,
+}
+
+#[derive(Clone, Copy, Debug, PartialEq, Eq)]
+pub enum Outcome {
+    /// The register is written.
+    Written,
+    /// The device's failure, with its code; the job is stopped.
+    Failure(u8),
+}
+
+impl Job {
+    /// Opens a restore of a pack that holds the 50 words `present`, towards the 15 values `wanted`.
+    pub fn open(present: &[i32], wanted: &[i32]) -> Result<Job> {
+        let mut job = [0; BYTES];
+        let answer = unsafe {
+            tracksaffron_restore_open(
+                present.as_ptr(),
+                present.len(),
+                wanted.as_ptr(),
+                wanted.len(),
+                job.as_mut_ptr(),
+                job.len(),
+            )
+        };
+        told(answer).map(|_| Job(job))
+    }
+
+    /// The next write as a frame.
+    pub fn next(&mut self, out: &mut [u8]) -> Result<Step> {
+        let answer =
+            unsafe { tracksaffron_restore_next(self.0.as_mut_ptr(), self.0.len(), out.as_mut_ptr(), out.len()) };
+        told(answer).map(|(kind, n)| match kind {
+            1 => Step::Frame(n),
+            2 => Step::Done,
+            _ => unlisted(kind),
+        })
+    }
+
+    /// Takes the reply to the frame just sent.
+    pub fn reply(&mut self, s: &[u8]) -> Result<Outcome> {
+        let answer = unsafe { tracksaffron_restore_reply(self.0.as_mut_ptr(), self.0.len(), s.as_ptr(), s.len()) };
+        told(answer).map(|(kind, n)| match kind {
+            1 => Outcome::Written,
+            2 => Outcome::Failure(n as u8),
+            _ => unlisted(kind),
+        })
+    }
+
+    /// How many settings differ from wanted in the job's picture; 8 where the bytes hold no job.
+    pub fn left(&self) -> Result<usize> {
+        told(unsafe { tracksaffron_restore_left(self.0.as_ptr(), self.0.len()) }).map(|(_, n)| n)
+    }
+}

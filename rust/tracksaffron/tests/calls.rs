@@ -1,0 +1,162 @@
+//! Every call, with answers that the documents give and with lengths that are wrong.
+
+use tracksaffron::restore::{Job, Outcome, Step};
+use tracksaffron::{old58, pace, pathfinder, tongzhu, Refusal, ROOM};
+
+const SET: [u8; 11] = [0xFE, 0x06, 0x0E, 0x03, 0x38, 0x00, 0x00, 0x00, 0x66, 0x7E, 0xFD];
+
+fn framed(opcode: u8, data: &[u8]) -> Vec<u8> {
+    let covered = [&[data.len() as u8 + 1, opcode], data].concat();
+    [&[0xFE], &covered[..], &pathfinder::crc16(&covered).to_be_bytes(), &[0xFD]].concat()
+}
+
+fn pace_reply(info: &str) -> Vec<u8> {
+    let count = info.len();
+    let digits = (count >> 8) + (count >> 4 & 15) + (count & 15);
+    let covered = format!("25014600{:X}{count:03X}{info}", (16 - digits % 16) % 16);
+    let check = covered.bytes().fold(0u16, |sum, c| sum.wrapping_sub(u16::from(c)));
+    format!("~{covered}{check:04X}\r").into_bytes()
+}
+
+#[test]
+fn pathfinder_calls() {
+    assert_eq!(pathfinder::crc16(&[0x01, 0x05]), 0x6394);
+    let mut out = [7; 16];
+    assert_eq!(pathfinder::write(3, 56, &mut out[..10]), Err(ROOM));
+    assert_eq!(pathfinder::write(3, 128, &mut out), Err(Refusal(9)));
+    assert_eq!(pathfinder::write(15, 0, &mut []), Err(Refusal(10)));
+    assert_eq!(out, [7; 16]);
+    assert_eq!(pathfinder::write(3, 56, &mut out), Ok(11));
+    assert_eq!((&out[..11], &out[11..]), (&SET[..], &[7; 5][..]));
+    assert_eq!(pathfinder::ask(5, &mut out), Ok(6));
+    assert_eq!(out[..6], [0xFE, 0x01, 0x05, 0x63, 0x94, 0xFD]);
+    assert_eq!(pathfinder::ask(5, &mut out[..5]), Err(ROOM));
+
+    let (mut row, mut name) = ([1; 3], [2; 14]);
+    let reply = framed(1, &[1, 0, 0, 0, 2, 0, 0, 0, 0xEC, 0xFF, 0xFF, 0xFF]);
+    assert_eq!(pathfinder::read(1, &reply, &mut row[..2], &mut name), Err(ROOM));
+    assert_eq!(pathfinder::read(1, &[], &mut [], &mut []), Err(Refusal(1)));
+    assert_eq!(row, [1; 3]);
+    assert_eq!(pathfinder::read(1, &reply, &mut row, &mut name), Ok(pathfinder::Reply::Words(3)));
+    assert_eq!(row, [1, 2, -20]);
+    let named = framed(5, b"PATHFINDER BMS");
+    assert_eq!(pathfinder::read(5, &named, &mut row, &mut name), Ok(pathfinder::Reply::Name(14)));
+    assert_eq!(&name, b"PATHFINDER BMS");
+    assert_eq!(pathfinder::read(0x0E, &framed(0x24, &[]), &mut [], &mut []), Ok(pathfinder::Reply::Failure(0x24)));
+    assert_eq!(pathfinder::read(0x0E, &framed(0x0E, &[]), &mut [], &mut []), Ok(pathfinder::Reply::Written));
+
+    assert_eq!(pathfinder::row(1, 0, -20), Ok(pathfinder::Row::Number(-20)));
+    assert_eq!(pathfinder::row(3, 0, 5000), Ok(pathfinder::Row::TenMillivolts(5000)));
+    assert_eq!(pathfinder::row(2, 43, 7), Ok(pathfinder::Row::Truth(true)));
+    assert_eq!(pathfinder::row(3, 10, 255), Ok(pathfinder::Row::Missing));
+    assert_eq!(pathfinder::row(5, 0, 0), Err(Refusal(7)));
+    assert_eq!(pathfinder::row(1, 3, 0), Err(Refusal(8)));
+
+    let log = [b"log \xFE text ", &SET[..], b" more"].concat();
+    assert_eq!(pathfinder::find(&log), Some(11));
+    assert_eq!(pathfinder::find(&log[..21]), None);
+    assert_eq!(pathfinder::find(&[]), None);
+}
+
+#[test]
+fn tongzhu_calls() {
+    let two = [
+        0x7F, 0x10, 0x02, 0x1B, 0x11, 0x01, 0x00, 0x00, 0x00, 0x14, 0x00, 0x45, 0x10, 0x33, 0x10, 0x1D, 0x15, 0x1E,
+        0x1E, 0x00, 0x00, 0xC2, 0x01, 0xF4, 0x01, 0xC0, 0xB0,
+    ];
+    let mut row = [-1; tongzhu::monitor2::NUMBERS];
+    assert_eq!(tongzhu::read(0x11, &two, &mut row[..13]), Err(ROOM));
+    assert_eq!(tongzhu::read(0x11, &two[..26], &mut row), Err(Refusal(4)));
+    assert_eq!(tongzhu::read(0x11, &[], &mut []), Err(Refusal(1)));
+    assert_eq!(row, [-1; 14]);
+    assert_eq!(tongzhu::read(0x11, &two, &mut row), Ok(tongzhu::Reply::Monitor2));
+    assert_eq!(row, [1, 0, 0, 0, 20, 4165, 4147, 5405, 30, 30, 0, 450, 500, 192]);
+    let error = [0x7F, 0x10, 0x02, 0x06, 0x00, 0x69];
+    assert_eq!(tongzhu::read(0x12, &error, &mut []), Ok(tongzhu::Reply::DeviceError));
+
+    let mut out = [0; 12];
+    let time = tongzhu::Time { year: 17, month: 5, day: 12, hour: 10, minute: 30, second: 50 };
+    assert_eq!(tongzhu::set_time(time, &mut out[..11]), Err(ROOM));
+    assert_eq!(tongzhu::set_time(tongzhu::Time { month: 13, ..time }, &mut out), Err(Refusal(9)));
+    assert_eq!(tongzhu::set_time(time, &mut out), Ok(12));
+    assert_eq!(out, [0x7F, 0x10, 0x02, 0x0C, 0x30, 0x17, 0x05, 0x12, 0x10, 0x30, 0x50, 0x75]);
+    assert_eq!(tongzhu::ask(0x12, &mut out[..5]), Err(ROOM));
+    assert_eq!(tongzhu::ask(0x12, &mut out), Ok(6));
+}
+
+#[test]
+fn pace_calls() {
+    let (mut out, mut row, mut text) = ([0; 40], [-1; pace::warnings::NUMBERS], [0; 40]);
+    assert_eq!(pace::ask(1, 0x42, &mut out[..19]), Err(ROOM));
+    assert_eq!(pace::ask(1, 0x42, &mut out), Ok(20));
+    assert_eq!(&out[..20], b"~25014642E00201FD30\r");
+    assert_eq!(pace::cell_overvoltage(1, 3600, 3700, 3500, 20, &mut out), Ok(34));
+    assert_eq!(pace::cell_overvoltage(1, 3600, 3700, 3500, 20, &mut out[..33]), Err(ROOM));
+    assert_eq!(pace::slow_discharge(1, 100, 105, 10, &mut out), Ok(30));
+    assert_eq!(&out[13..25], b"01006400690A");
+    assert_eq!(pace::slow_discharge(1, 151, 105, 10, &mut []), Err(Refusal(9)));
+
+    let limits = pace_reply("01FF9CFF970A");
+    assert_eq!(pace::read(1, 0xDB, &limits, &mut row[..2], &mut []), Err(ROOM));
+    assert_eq!(pace::read(2, 0xDB, &limits, &mut row, &mut []), Err(Refusal(6)));
+    assert_eq!(pace::read(1, 0xDB, &[], &mut [], &mut []), Err(Refusal(1)));
+    assert_eq!(row, [-1; 38]);
+    assert_eq!(pace::read(1, 0xDB, &limits, &mut row, &mut []), Ok(pace::Reply::SlowDischarge));
+    assert_eq!(row[..3], [100, 105, 10]);
+    let analog = pace_reply("0001020D480D49010B9BFF9C1A9003E803138800021388");
+    assert_eq!(pace::read(1, 0x42, &analog, &mut row, &mut []), Ok(pace::Reply::Analog));
+    assert_eq!(row[pace::analog::CELLS_MV..][..3], [3400, 3401, 0]);
+    assert_eq!((row[pace::analog::TEMPERATURES_DC], row[pace::analog::CURRENT_10MA]), (241, -100));
+    let status = pace_reply("0001010701020102030405060708090A0B0C");
+    assert_eq!(pace::read(1, 0x44, &status, &mut row, &mut []), Ok(pace::Reply::Warnings));
+    assert_eq!((row[pace::warnings::CELLS], row[pace::warnings::WARNING2]), (7, 12));
+    let serial = pace_reply(&"41".repeat(40));
+    assert_eq!(pace::read(1, 0xC2, &serial, &mut [], &mut text[..39]), Err(ROOM));
+    assert_eq!(pace::read(1, 0xC2, &serial, &mut [], &mut text), Ok(pace::Reply::Serial(40)));
+    assert_eq!(text, [b'A'; 40]);
+    assert_eq!(pace::read(1, 0xD0, &pace_reply(""), &mut [], &mut []), Ok(pace::Reply::Accepted));
+}
+
+#[test]
+fn old58_calls() {
+    let mut record = [0; 58];
+    record[..12].copy_from_slice(b"\x00\x0A\x00+\x01\x00-\x01\x00X\x00\x00");
+    record[57] = record[..57].iter().fold(0u8, |sum, &b| sum.wrapping_add(b));
+    let mut row = [-1; old58::record::NUMBERS];
+    assert_eq!(old58::read(&record, &mut row[..31]), Err(ROOM));
+    assert_eq!(old58::read(&record[..57], &mut row), Err(Refusal(1)));
+    assert_eq!(old58::read(&[0; 59], &mut row), Err(Refusal(4)));
+    assert_eq!(row, [-1; 32]);
+    assert_eq!(old58::read(&record, &mut row), Ok(()));
+    assert_eq!(row[..7], [12800, 1, 32000, 1, -32000, 0, 0]);
+}
+
+#[test]
+fn restore_calls() {
+    let mut present = [0; 50];
+    present[..15].copy_from_slice(&[1000, 10, 4, 55, 50, 5, 0, 40, 5, 50, 0, 5, 0, 40, 5]);
+    let mut wanted = [0; 15];
+    wanted.copy_from_slice(&present[..15]);
+    (wanted[3], wanted[4]) = (45, 40);
+    assert_eq!(Job::open(&present[..49], &wanted), Err(Refusal(8)));
+    assert_eq!(Job::open(&present, &[]), Err(Refusal(8)));
+    let mut job = Job::open(&present, &wanted).unwrap();
+    let (mut out, written) = ([0; 11], framed(0x0E, &[]));
+    assert_eq!(job.left(), Ok(2));
+    assert_eq!(job.reply(&written), Err(Refusal(14)));
+    assert_eq!(job.next(&mut out[..10]), Err(ROOM));
+    for register in [4, 3] {
+        assert_eq!(job.next(&mut out), Ok(Step::Frame(11)));
+        assert_eq!((out[3], i32::from(out[4])), (register, wanted[usize::from(register)]));
+        assert_eq!(job.reply(&[]), Err(Refusal(1)));
+        assert_eq!(job.reply(&written), Ok(Outcome::Written));
+    }
+    assert_eq!((job.next(&mut out), job.left()), (Ok(Step::Done), Ok(0)));
+
+    let mut job = Job::open(&present, &wanted).unwrap();
+    assert_eq!(job.next(&mut out), Ok(Step::Frame(11)));
+    assert_eq!(job.reply(&framed(0x24, &[])), Ok(Outcome::Failure(0x24)));
+    assert_eq!(job.next(&mut out), Err(Refusal(14)));
+    job.0[260] = 3;
+    assert_eq!((job.next(&mut out), job.left()), (Err(Refusal(8)), Err(Refusal(8))));
+}
