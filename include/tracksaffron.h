@@ -1,7 +1,8 @@
-/* Tracksaffron: replies of four battery monitors read, requests written, settings restored. Every call is proved to do what this file says.
+/* Tracksaffron: replies of four battery monitors read, requests written, settings restored. Each call is proved to keep its promise
+ * (docs/PROMISES.md), which this file says in words.
  *
  * Link target/staticlib/libtracksaffron.a, which include/archive builds. The library allocates nothing, keeps nothing between calls, and uses
- * memcpy and its like alone. Every call may be made with any bytes of any length. It reads and writes what it is lent within the lengths given
+ * memcpy alone of the C library. Every call may be made with any bytes of any length. It reads and writes what it is lent within the lengths given
  * and nowhere else; a pointer with length 0 must not be null. What one call is lent must not overlap.
  *
  * Every answer but a checksum's and a search's is one number: a kind (TRACKSAFFRON_KIND), and a number that goes with it

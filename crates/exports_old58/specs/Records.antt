@@ -1,5 +1,5 @@
--- A record of the 58-byte monitor as a row of 32 numbers, in the order of the bytes (001). A number of 32 bits stands as its bits; none in a record
--- that was read reaches 2 ^ 31.
+-- A record of the 58-byte monitor as a row of 32 numbers, in the order of the bytes (001). A number of 32 bits stands as its bits;
+-- the largest that 001 has, five times three bytes, is below 2 ^ 31.
 -- Assumes nothing.
 use Prim.Native.Nat.{ℕ}
 use mathlib.Core.List.{List, [], _∷_}
