@@ -1,4 +1,5 @@
 // Checks: CRC-16/XMODEM over bytes (000, Checksum), and the sums that close to zero (002, 4: modulo 256; 004: modulo 65,536).
+use std::num::wrapping_add_u32;
 ghost use mathlib.Core.Path.{_≡_};
 ghost use Prim.Native.Nat.{_%_, _<_};
 ghost use lib.ListN.{length, take};
@@ -98,17 +99,17 @@ pub fn sum256(s: &[u8]) -> u8
     (sum_low(s) % 256) as u8
 }
 
-// The low 16 bits of the sum of the bytes, which both moduli divide.
+// The low 16 bits of the sum of the bytes, which both moduli divide. A plain sum is added up several bytes at a time.
 fn sum_low(s: &[u8]) -> u32
     ensures { λ r. ⌜ r ≡ total (now (s .entry)) % 65536 ⌝ }
 {
     let mut t: u32 = 0;
     let mut i = 0;
     while i < s.len() {
-        t = (t + wide(s[i])) % 65536;
+        t = wrapping_add_u32(t, wide(s[i]));
         i += 1;
     }
-    t
+    t % 65536
 }
 
 fn wide(x: u8) -> u32

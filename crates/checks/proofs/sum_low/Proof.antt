@@ -2,16 +2,16 @@
 -- Assumes nothing.
 use Prim.Native.Nat.{ℕ, _+_, _-_, _%_, _≤_, _<_}
 use mathlib.Core.Path.{_≡_, ap}
-use native.Mathlib.Omega.{arith}
 use lib.ListN.{length, drop}
-use borrow.Author.Needs.{needs}
 use Rattle.laws.proofs.Walk.{left-next, left-none}
 use Rattle.checks.specs.Sums.{total}
+use borrow.Author.Needs.{needs}
+use native.Mathlib.Omega.{arith}
 use Rattle.checks.proofs.sum_low.Statement.{statement}
 use Rattle.checks.proofs.sum_low.Tie as tie
 
 abbrev Inv-loop : tie.InvT-loop
-Inv-loop s t₀ i₀ t i = (i ≤ length s) × (t < 65536) × ((t + total (drop i s)) % 65536 ≡ total s % 65536)
+Inv-loop s t₀ i₀ t i = (i ≤ length s) × (t < 4294967296) × ((t + total (drop i s)) % 65536 ≡ total s % 65536)
 
 abbrev μ-loop : tie.MeasureT-loop
 μ-loop s t₀ i₀ t i = length s - i
@@ -25,8 +25,8 @@ shared-slice-read-wide c = search needs
 wide-requires : tie.Need-wide-requires Inv-loop μ-loop
 wide-requires c κs = search needs
 
-add-t : tie.Need-add-t Inv-loop μ-loop
-add-t c = omega (arith, c .before .shared-slice-known2 .given (c .before .before .before .loop .i))
+wrapping-add-u32-requires : tie.Need-wrapping-add-u32-requires Inv-loop μ-loop
+wrapping-add-u32-requires c κs = search needs
 
 add-i : tie.Need-add-i Inv-loop μ-loop
 add-i c = search needs
@@ -37,8 +37,8 @@ loop-less c = omega arith
 loop-again : tie.Need-loop-again Inv-loop μ-loop
 unfolding total
 loop-again c =
-    let s = c .before .before .before .before .before .args .s .now in
-    let l = c .before .before .before .loop in
+    let s = c .before .before .before .before .before .before .args .s .now in
+    let l = c .before .before .before .before .loop in
     let h : l .i < length s = omega arith in
     let next = ap total (left-next s (l .i) h) in (omega arith, omega arith, omega arith)
 
@@ -60,7 +60,7 @@ sum-low-spec =
     loop-holds
     shared-slice-read-wide
     wide-requires
-    add-t
+    wrapping-add-u32-requires
     add-i
     loop-less
     loop-again
