@@ -5,9 +5,29 @@ use mathlib.Core.Bool.{Bool, true, false, _&&_}
 use mathlib.Core.List.{List, [], _∷_, _++_}
 use Prim.Native.Nat.{ℕ, _+_, _<_, _≤_}
 use lib.ListN.{length, getD, drop}
+use lib.Dec.{eqb}
+use native.Mathlib.Omega.{arith}
+use Rattle.laws.specs.Choice.{pick}
 use Rattle.laws.proofs.Ladders.{both}
 use Rattle.laws.proofs.Walk.{left-next, left-none}
 use Rattle.characters_pace.specs.Characters.{allOf}
+
+and-true : (b : Bool) → b && true ≡ b
+and-true true = refl
+and-true false = refl
+
+and-false : (b : Bool) → b && false ≡ false
+and-false true = refl
+and-false false = refl
+
+-- the answer t of one test more
+noted-next : (t : Bool) (w : ℕ) (rest whole : Bool) → eqb w 0 && (t && rest) ≡ whole → eqb (pick t w 1) 0 && rest ≡ whole
+noted-next true w rest whole h = h
+noted-next false w rest whole h = sym (and-false (eqb w 0)) ∙ h
+
+pub noted-small : (t : Bool) (w : ℕ) → w < 2 → pick t w 1 < 2
+noted-small true w h = h
+noted-small false w h = omega arith
 
 module _ (p : ℕ → Bool) where
   pub all-append : (a b : List ℕ) → allOf p a ≡ true → allOf p b ≡ true → allOf p (a ++ b) ≡ true
@@ -41,3 +61,14 @@ module _ (p : ℕ → Bool) where
     pub all-ended : length s ≤ i → true ≡ allOf p s
     unfolding allOf
     all-ended h = sym (ap (allOf p) (left-none s i h)) ∙ inv
+
+  -- a loop along the list that notes a failed test and goes on: w is 0 for as long as none failed
+  module _ (s : List ℕ) (w i : ℕ) (inv : eqb w 0 && allOf p (drop i s) ≡ allOf p s) where
+    pub all-noted : i < length s → eqb (pick (p (getD s i 0)) w 1) 0 && allOf p (drop (i + 1) s) ≡ allOf p s
+    unfolding allOf
+    all-noted h = noted-next (p (getD s i 0)) w (allOf p (drop (i + 1) s)) (allOf p s) (sym (ap (λ (l : List ℕ). eqb w 0 && allOf p l) (left-next s i h)) ∙ inv)
+
+    -- nothing is left
+    pub noted-ended : length s ≤ i → eqb w 0 ≡ allOf p s
+    unfolding allOf
+    noted-ended h = sym (and-true (eqb w 0)) ∙ sym (ap (λ (l : List ℕ). eqb w 0 && allOf p l) (left-none s i h)) ∙ inv

@@ -6,22 +6,37 @@ use digits::write_byte;
 use numbers::Order;
 use numbers::number16;
 ghost use mathlib.Core.Path.{_≡_};
+ghost use Prim.Native.Nat.{_<_};
 ghost use lib.ListN.{length, getD};
 ghost use Rattle.digits.specs.Hexes.{digitOf, byteOf};
+ghost use Rattle.laws.specs.Choice.{pick};
 ghost use Rattle.characters_pace.specs.Characters.{valueIn, isValue, allHex, bytesIn, wordAt, bytesAt, wordsAt, hexAfter};
 
-// Whether each character is one of 0-9 and A-F.
+// Whether each character is one of 0-9 and A-F. Every character is looked at, so that several are at a time.
 pub fn all_hex(s: &[u8]) -> bool
     ensures { λ r. ⌜ r ≡ allHex (now (s .entry)) ⌝ }
 {
+    let mut wrong: u8 = 0;
     let mut i = 0;
     while i < s.len() {
-        if !is_hex(s[i]) {
-            return false;
-        }
+        wrong = noted(wrong, s[i]);
         i += 1;
     }
-    true
+    wrong == 0
+}
+
+// 1 from the first character on that is no digit.
+fn noted(wrong: u8, c: u8) -> u8
+    requires { ⌜ wrong < 2 ⌝ }
+    ensures { λ r. ⌜ r ≡ pick (isValue (digitOf c)) wrong 1 ⌝ }
+{
+    wrong | mark(c)
+}
+
+fn mark(c: u8) -> u8
+    ensures { λ r. ⌜ r ≡ pick (isValue (digitOf c)) 0 1 ⌝ }
+{
+    if is_hex(c) { 0 } else { 1 }
 }
 
 // Whether a character is one of 0-9 and A-F.
