@@ -33,7 +33,7 @@ abbrev pub placeCode : Found → ℕ → ℕ
 placeCode (At p n) len = p
 placeCode Nothing len = len
 
--- 1 a number, 2 one in units of ten millivolts, 3 a truth as 1 or 0, 4 no data
+-- ten millivolts as their count
 abbrev pub tensOf : TenMillivolts → ℤ
 tensOf v = v .0
 
@@ -41,6 +41,7 @@ abbrev pub truthOf : Bool → ℤ
 truthOf true = pos 1
 truthOf false = pos 0
 
+-- 1 a number, 2 one in units of ten millivolts, 3 a truth as 1 or 0, 4 no data
 abbrev pub toldRow : Row → Told
 toldRow (row.Number v) = numbers 1 (v ∷ [])
 toldRow (row.TenMillivolts v) = numbers 2 (tensOf v ∷ [])
