@@ -9,14 +9,19 @@ use old58::Cell;
 use old58::Current;
 use old58::Energy;
 use old58::Extremes;
+use old58::Judged;
 use old58::Pack;
-use old58::Reading;
-use old58::Record;
 use old58::Setup;
-use old58::read_record;
+use old58::cell_of;
+use old58::energy_of;
+use old58::extremes_of;
+use old58::judge;
+use old58::pack_of;
+use old58::setup_of;
 ghost use mathlib.Core.Path.{_≡_};
 ghost use lib.ListN.{length};
 ghost use Rattle.old58.specs.Read.{readingOf};
+ghost use Rattle.old58.specs.Record.{recordOf};
 ghost use Rattle.exports_rows.specs.Told.{codeOf, rowAfter, roomCode, over};
 ghost use Rattle.exports_old58.specs.Records.{known, milliamps, packNumbers, extremesNumbers, cellNumbers, energyNumbers, setupNumbers, allNumbers, toldOf};
 
@@ -29,29 +34,30 @@ pub extern "C" fn tracksaffron_old_read(s: &[u8], row: &mut [i32]) -> u64
     ensures answer { λ r. ⌜ r ≡ codeOf (toldOf (readingOf (now (s .entry)))) (length (now (row .entry))) 0 ⌝ }
     ensures filled { λ r. ⌜ now (row .exit) ≡ rowAfter (toldOf (readingOf (now (s .entry)))) (now (row .entry)) ⌝ }
 {
-    let reading = read_record(s);
-    match reading {
-        Reading::Whole(r) => put_record(r, row),
-        Reading::Refused(why) => why.number as u64,
+    let judged = judge(s);
+    match judged {
+        Judged::Sound => put_record(s, row),
+        Judged::Refused(why) => why.number as u64,
     }
 }
 
-fn put_record(r: Record, row: &mut [i32]) -> u64
-    ensures answer { λ n. ⌜ n ≡ roomCode 1 (length (allNumbers r)) (length (now (row .entry))) ⌝ }
-    ensures filled { λ n. ⌜ now (row .exit) ≡ over (allNumbers r) (now (row .entry)) ⌝ }
+// The record in the bytes, each part read and then written: a whole record would not stay in the registers.
+fn put_record(s: &[u8], row: &mut [i32]) -> u64
+    ensures answer { λ n. ⌜ n ≡ roomCode 1 (length (allNumbers (recordOf (now (s .entry))))) (length (now (row .entry))) ⌝ }
+    ensures filled { λ n. ⌜ now (row .exit) ≡ over (allNumbers (recordOf (now (s .entry)))) (now (row .entry)) ⌝ }
 {
     if row.len() < RECORD {
         return refusals::ROOM as u64;
     }
-    let pack = pack_numbers(r.pack);
-    let extremes = extremes_numbers(r.extremes);
-    let cell = cell_numbers(r.cell);
-    let energy = energy_numbers(r.energy);
-    let setup = setup_numbers(r.setup);
+    let pack = pack_numbers(pack_of(s));
     put_i32(&pack, 0, row);
+    let extremes = extremes_numbers(extremes_of(s));
     put_i32(&extremes, 7, row);
+    let cell = cell_numbers(cell_of(s));
     put_i32(&cell, 15, row);
+    let energy = energy_numbers(energy_of(s));
     put_i32(&energy, 20, row);
+    let setup = setup_numbers(setup_of(s));
     put_i32(&setup, 26, row);
     coded(1, RECORD)
 }

@@ -1,4 +1,4 @@
--- The cases of `ranged` and `readingOf`, each from the facts that the code has at that place.
+-- The cases of `ranged` and `judgedOf`, each from the facts that the code has at that place.
 -- Assumes nothing.
 use mathlib.Core.Path.{_≡_, sym, _∙_}
 use mathlib.Core.Bool.{Bool, true, false}
@@ -9,9 +9,9 @@ use lib.Dec.{leb}
 use lib.ListN.{length, getD, take}
 use Rattle.checks.specs.Sums.{total}
 use Rattle.refusals.specs.Refused.{refusedWith, short, lengths, checksum, range}
-use Rattle.old58.specs.declared.Reading.the-variants.{Whole, Refused}
-use Rattle.old58.specs.Record.{byteAt, recordOf}
-use Rattle.old58.specs.Read.{signKnown, ranged, readingOf}
+use Rattle.old58.specs.declared.Judged.the-variants.{Sound, Refused}
+use Rattle.old58.specs.Record.{byteAt}
+use Rattle.old58.specs.Read.{signKnown, ranged, judgedOf}
 
 -- ---- the ranges
 
@@ -39,28 +39,28 @@ module _ (s : List ℕ) where
         unfolding ranged
         minute-decides h = rw (a, b, d, le-leb _ _ h)
 
--- ---- the reading
+-- ---- the record
 
 module _ (s : List ℕ) where
-  pub too-short : length s < 58 → Refused (refusedWith short) ≡ readingOf s
-  unfolding readingOf
+  pub too-short : length s < 58 → Refused (refusedWith short) ≡ judgedOf s
+  unfolding judgedOf
   too-short h = rw (lt-ltb _ _ h)
 
   module _ (enough : 58 ≤ length s) where
-    pub too-long : 58 < length s → Refused (refusedWith lengths) ≡ readingOf s
-    unfolding readingOf
+    pub too-long : 58 < length s → Refused (refusedWith lengths) ≡ judgedOf s
+    unfolding judgedOf
     too-long h = rw (le-ltb _ _ enough, lt-ltb _ _ h)
 
     module _ (fits : length s ≤ 58) where
-      pub sum-wrong : (total (take 57 s) % 256 ≡ getD s 57 0 → ⊥) → Refused (refusedWith checksum) ≡ readingOf s
-      unfolding readingOf
+      pub sum-wrong : (total (take 57 s) % 256 ≡ getD s 57 0 → ⊥) → Refused (refusedWith checksum) ≡ judgedOf s
+      unfolding judgedOf
       sum-wrong h = rw (le-ltb _ _ enough, le-ltb _ _ fits, ne-eqb _ _ h)
 
       module _ (sum : total (take 57 s) % 256 ≡ getD s 57 0) where
-        pub out-of-range : ranged s ≡ false → Refused (refusedWith range) ≡ readingOf s
-        unfolding readingOf
+        pub out-of-range : ranged s ≡ false → Refused (refusedWith range) ≡ judgedOf s
+        unfolding judgedOf
         out-of-range h = rw (le-ltb _ _ enough, le-ltb _ _ fits, eq-eqb _ _ sum, h)
 
-        pub whole : ranged s ≡ true → Whole (recordOf s) ≡ readingOf s
-        unfolding readingOf
-        whole h = rw (le-ltb _ _ enough, le-ltb _ _ fits, eq-eqb _ _ sum, h)
+        pub sound : ranged s ≡ true → Sound ≡ judgedOf s
+        unfolding judgedOf
+        sound h = rw (le-ltb _ _ enough, le-ltb _ _ fits, eq-eqb _ _ sum, h)

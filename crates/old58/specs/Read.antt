@@ -10,7 +10,9 @@ use Rattle.laws.specs.Choice.{pick}
 use Rattle.checks.specs.Sums.{total}
 use Rattle.refusals.specs.Refused.{refusedWith, short, lengths, checksum, range}
 use Rattle.old58.specs.declared.Reading.{Reading}
-use Rattle.old58.specs.declared.Reading.the-variants.{Whole, Refused}
+use Rattle.old58.specs.declared.Reading.the-variants.{Whole, Refused as NoRecord}
+use Rattle.old58.specs.declared.Judged.{Judged}
+use Rattle.old58.specs.declared.Judged.the-variants.{Sound, Refused}
 use Rattle.old58.specs.Record.{byteAt, recordOf}
 
 -- +, - and X
@@ -27,10 +29,17 @@ ranged s =
 abbrev pub checked : List ℕ → Bool
 checked s = eqb (total (take 57 s) % 256) (byteAt s 58)
 
-unfoldable pub readingOf : List ℕ → Reading
-readingOf s =
+unfoldable pub judgedOf : List ℕ → Judged
+judgedOf s =
     pick (ltb (length s) 58) (Refused (refusedWith short))
     (pick (ltb 58 (length s)) (Refused (refusedWith lengths))
     (pick (checked s)
-    (pick (ranged s) (Whole (recordOf s)) (Refused (refusedWith range)))
+    (pick (ranged s) Sound (Refused (refusedWith range)))
     (Refused (refusedWith checksum))))
+
+abbrev pub readAs : List ℕ → Judged → Reading
+readAs s Sound = Whole (recordOf s)
+readAs s (Refused why) = NoRecord why
+
+unfoldable pub readingOf : List ℕ → Reading
+readingOf s = readAs s (judgedOf s)

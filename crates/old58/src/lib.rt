@@ -7,11 +7,11 @@ use numbers::number24;
 use refusals::Refusal;
 use refusals::refuse;
 ghost use mathlib.Core.Path.{_≡_};
-ghost use Prim.Native.Nat.{_+_, _-_, _%_, _≤_, _<_};
+ghost use Prim.Native.Nat.{_-_, _%_, _≤_, _<_};
 ghost use lib.ListN.{length, take};
 ghost use Rattle.checks.specs.Sums.{total};
-ghost use Rattle.old58.specs.Record.{twoAt, threeAt, voltsAt, degreesAt, currentOf, currentAt, packOf, extremesOf, cellOf, energyOf, setupOf, recordOf};
-ghost use Rattle.old58.specs.Read.{signKnown, ranged, readingOf};
+ghost use Rattle.old58.specs.Record.{byteAt, twoAt, threeAt, voltsAt, degreesAt, currentOf, currentAt, packOf, extremesOf, cellOf, energyOf, setupOf, recordOf};
+ghost use Rattle.old58.specs.Read.{signKnown, ranged, judgedOf, readingOf};
 
 // A current, or none where the monitor has no such sensor (sign X).
 pub enum Current {
@@ -82,24 +82,41 @@ pub enum Reading {
     Refused(Refusal),
 }
 
+// Whether bytes are a record.
+pub enum Judged {
+    Sound,
+    Refused(Refusal),
+}
+
 // The record in the bytes, or why there is none.
 pub fn read_record(s: &[u8]) -> Reading
     ensures { λ r. ⌜ r ≡ readingOf (now (s .entry)) ⌝ }
 {
+    let judged = judge(s);
+    match judged {
+        Judged::Sound => Reading::Whole(record_of(s)),
+        Judged::Refused(why) => Reading::Refused(why),
+    }
+}
+
+// Whether the bytes are a record, or why they are none. Who wants its parts one by one reads them after it.
+pub fn judge(s: &[u8]) -> Judged
+    ensures { λ r. ⌜ r ≡ judgedOf (now (s .entry)) ⌝ }
+{
     let sum = front_sum(s);
     if s.len() < 58 {
-        return Reading::Refused(refuse(refusals::SHORT));
+        return Judged::Refused(refuse(refusals::SHORT));
     }
     if 58 < s.len() {
-        return Reading::Refused(refuse(refusals::LENGTH));
+        return Judged::Refused(refuse(refusals::LENGTH));
     }
     if sum != s[57] {
-        return Reading::Refused(refuse(refusals::CHECKSUM));
+        return Judged::Refused(refuse(refusals::CHECKSUM));
     }
     if !in_range(s) {
-        return Reading::Refused(refuse(refusals::RANGE));
+        return Judged::Refused(refuse(refusals::RANGE));
     }
-    Reading::Whole(record_of(s))
+    Judged::Sound
 }
 
 // The sum of all bytes but the last. It is taken before the length is tested: a sum of 57 bytes would be unrolled whole, with the
@@ -144,7 +161,6 @@ fn is_sign(b: u8) -> bool
 }
 
 fn record_of(s: &[u8]) -> Record
-    requires { ⌜ 58 ≤ length (now s) ⌝ }
     ensures { λ r. ⌜ r ≡ recordOf (now (s .entry)) ⌝ }
 {
     Record {
@@ -156,8 +172,8 @@ fn record_of(s: &[u8]) -> Record
     }
 }
 
-fn pack_of(s: &[u8]) -> Pack
-    requires { ⌜ 58 ≤ length (now s) ⌝ }
+// The parts of a record, each from its own bytes; a byte past the end is 0.
+pub fn pack_of(s: &[u8]) -> Pack
     ensures { λ r. ⌜ r ≡ packOf (now (s .entry)) ⌝ }
 {
     Pack {
@@ -168,56 +184,52 @@ fn pack_of(s: &[u8]) -> Pack
     }
 }
 
-fn extremes_of(s: &[u8]) -> Extremes
-    requires { ⌜ 58 ≤ length (now s) ⌝ }
+pub fn extremes_of(s: &[u8]) -> Extremes
     ensures { λ r. ⌜ r ≡ extremesOf (now (s .entry)) ⌝ }
 {
     Extremes {
         lowest_mv: volts_at(s, 13),
-        lowest_cell: s[14],
+        lowest_cell: byte_at(s, 15),
         highest_mv: volts_at(s, 16),
-        highest_cell: s[17],
+        highest_cell: byte_at(s, 18),
         coldest_c: degrees_at(s, 19),
-        coldest_cell: s[20],
+        coldest_cell: byte_at(s, 21),
         hottest_c: degrees_at(s, 22),
-        hottest_cell: s[23],
+        hottest_cell: byte_at(s, 24),
     }
 }
 
-fn cell_of(s: &[u8]) -> Cell
-    requires { ⌜ 58 ≤ length (now s) ⌝ }
+pub fn cell_of(s: &[u8]) -> Cell
     ensures { λ r. ⌜ r ≡ cellOf (now (s .entry)) ⌝ }
 {
     Cell {
-        cell: s[24],
-        cells: s[25],
+        cell: byte_at(s, 25),
+        cells: byte_at(s, 26),
         cell_mv: volts_at(s, 27),
         cell_c: degrees_at(s, 29),
-        status: s[30],
+        status: byte_at(s, 31),
     }
 }
 
-fn energy_of(s: &[u8]) -> Energy
-    requires { ⌜ 58 ≤ length (now s) ⌝ }
+pub fn energy_of(s: &[u8]) -> Energy
     ensures { λ r. ⌜ r ≡ energyOf (now (s .entry)) ⌝ }
 {
     Energy {
         collected_today_wh: three_at(s, 32),
         stored_wh: three_at(s, 35),
         consumed_today_wh: three_at(s, 38),
-        soc_percent: s[40],
+        soc_percent: byte_at(s, 41),
         collected_kwh: three_at(s, 42),
         consumed_kwh: three_at(s, 45),
     }
 }
 
-fn setup_of(s: &[u8]) -> Setup
-    requires { ⌜ 58 ≤ length (now s) ⌝ }
+pub fn setup_of(s: &[u8]) -> Setup
     ensures { λ r. ⌜ r ≡ setupOf (now (s .entry)) ⌝ }
 {
     Setup {
-        hour: s[47],
-        minute: s[48],
+        hour: byte_at(s, 48),
+        minute: byte_at(s, 49),
         capacity_100wh: two_at(s, 50),
         vmin_count: two_at(s, 52),
         vmax_count: two_at(s, 54),
@@ -225,25 +237,40 @@ fn setup_of(s: &[u8]) -> Setup
     }
 }
 
+fn byte_at(s: &[u8], byte: usize) -> u8
+    requires { ⌜ 1 ≤ byte ⌝ }
+    ensures { λ r. ⌜ r ≡ byteAt (now (s .entry)) byte ⌝ }
+{
+    if s.len() < byte {
+        return 0;
+    }
+    s[byte - 1]
+}
+
 // The number of the two bytes from this one on.
 fn two_at(s: &[u8], byte: usize) -> u16
-    requires { ⌜ (1 ≤ byte) × (byte + 1 ≤ length (now s)) ⌝ }
+    requires { ⌜ (1 ≤ byte) × (byte ≤ 56) ⌝ }
     ensures { λ r. ⌜ r ≡ twoAt (now (s .entry)) byte ⌝ }
 {
-    number16(Order::HighFirst, s[byte - 1], s[byte])
+    number16(Order::HighFirst, byte_at(s, byte), byte_at(s, byte + 1))
 }
 
 // The number of the three bytes from this one on.
 fn three_at(s: &[u8], byte: usize) -> u32
-    requires { ⌜ (1 ≤ byte) × (byte + 2 ≤ length (now s)) ⌝ }
+    requires { ⌜ (1 ≤ byte) × (byte ≤ 55) ⌝ }
     ensures { λ r. ⌜ (r ≡ threeAt (now (s .entry)) byte) × (r < 16777216) ⌝ }
 {
-    number24(Order::HighFirst, s[byte - 1], s[byte], s[byte + 1])
+    number24(
+        Order::HighFirst,
+        byte_at(s, byte),
+        byte_at(s, byte + 1),
+        byte_at(s, byte + 2),
+    )
 }
 
 // Two bytes of 5 mV a count.
 fn volts_at(s: &[u8], byte: usize) -> u32
-    requires { ⌜ (1 ≤ byte) × (byte + 1 ≤ length (now s)) ⌝ }
+    requires { ⌜ (1 ≤ byte) × (byte ≤ 56) ⌝ }
     ensures { λ r. ⌜ r ≡ voltsAt (now (s .entry)) byte ⌝ }
 {
     5 * (two_at(s, byte) as u32)
@@ -251,7 +278,7 @@ fn volts_at(s: &[u8], byte: usize) -> u32
 
 // Two bytes of degrees, 276 above Celsius.
 fn degrees_at(s: &[u8], byte: usize) -> i32
-    requires { ⌜ (1 ≤ byte) × (byte + 1 ≤ length (now s)) ⌝ }
+    requires { ⌜ (1 ≤ byte) × (byte ≤ 56) ⌝ }
     ensures { λ r. ⌜ r ≡ degreesAt (now (s .entry)) byte ⌝ }
 {
     two_at(s, byte) as i32 - 276
@@ -259,10 +286,10 @@ fn degrees_at(s: &[u8], byte: usize) -> i32
 
 // A sign byte and the two bytes of 125 mA a count behind it.
 fn current_at(s: &[u8], byte: usize) -> Current
-    requires { ⌜ (1 ≤ byte) × (byte + 2 ≤ length (now s)) ⌝ }
+    requires { ⌜ (1 ≤ byte) × (byte ≤ 55) ⌝ }
     ensures { λ r. ⌜ r ≡ currentAt (now (s .entry)) byte ⌝ }
 {
-    current_of(s[byte - 1], two_at(s, byte + 1))
+    current_of(byte_at(s, byte), two_at(s, byte + 1))
 }
 
 fn current_of(sign: u8, count: u16) -> Current

@@ -8,11 +8,11 @@ use borrow.Author.Needs.{needs}
 use Rattle.old58.proofs.cell_of.Statement.{statement}
 use Rattle.old58.proofs.cell_of.Tie as tie
 
-shared-slice-read-t3 : tie.Need-shared-slice-read-t3
-shared-slice-read-t3 c = search needs
+byte-at-requires : tie.Need-byte-at-requires
+byte-at-requires c κs = search needs
 
-shared-slice-read-t5 : tie.Need-shared-slice-read-t5
-shared-slice-read-t5 c = search needs
+byte-at-requires-2 : tie.Need-byte-at-requires-2
+byte-at-requires-2 c κs = search needs
 
 volts-at-requires : tie.Need-volts-at-requires
 volts-at-requires c κs = search needs
@@ -20,24 +20,24 @@ volts-at-requires c κs = search needs
 degrees-at-requires : tie.Need-degrees-at-requires
 degrees-at-requires c κs = search needs
 
-shared-slice-read-t9 : tie.Need-shared-slice-read-t9
-shared-slice-read-t9 c = search needs
+byte-at-requires-3 : tie.Need-byte-at-requires-3
+byte-at-requires-3 c κs = search needs
 
 returns : tie.Need-returns
 unfolding cellOf
 returns c =
-    let v = c .before .before .volts-at in
+    let v = c .before .before in
     let d = c .before .degrees-at in
     let held : toZ w32 (ofZ w32 (d .result)) ≡ d .result = search needs in
-    rw (held, v .ensures, d .ensures)
+    rw (held, v .before .before .byte-at .ensures, v .before .byte-at2 .ensures, v .volts-at .ensures, d .ensures, c .byte-at3 .ensures)
 
 pub cell-of-spec : {M : Type 1} → statement M
 cell-of-spec =
     tie.close
     (tie.spec
-    shared-slice-read-t3
-    shared-slice-read-t5
+    byte-at-requires
+    byte-at-requires-2
     volts-at-requires
     degrees-at-requires
-    shared-slice-read-t9
+    byte-at-requires-3
     returns)

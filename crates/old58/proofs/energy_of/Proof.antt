@@ -14,8 +14,8 @@ three-at-requires-2 c κs = search needs
 three-at-requires-3 : tie.Need-three-at-requires-3
 three-at-requires-3 c κs = search needs
 
-shared-slice-read-t6 : tie.Need-shared-slice-read-t6
-shared-slice-read-t6 c = search needs
+byte-at-requires : tie.Need-byte-at-requires
+byte-at-requires c κs = search needs
 
 three-at-requires-4 : tie.Need-three-at-requires-4
 three-at-requires-4 c κs = search needs
@@ -26,8 +26,8 @@ three-at-requires-5 c κs = search needs
 returns : tie.Need-returns
 unfolding energyOf
 returns c =
-    let last = c .before .before .before in
-    rw (last .before .before .three-at .ensures .0, last .before .three-at2 .ensures .0, last .three-at3 .ensures .0, c .before .three-at4 .ensures .0, c .three-at5 .ensures .0)
+    let three = c .before .before in
+    rw (three .before .before .before .three-at .ensures .0, three .before .before .three-at2 .ensures .0, three .before .three-at3 .ensures .0, three .byte-at .ensures, c .before .three-at4 .ensures .0, c .three-at5 .ensures .0)
 
 pub energy-of-spec : {M : Type 1} → statement M
 energy-of-spec =
@@ -36,7 +36,7 @@ energy-of-spec =
     three-at-requires
     three-at-requires-2
     three-at-requires-3
-    shared-slice-read-t6
+    byte-at-requires
     three-at-requires-4
     three-at-requires-5
     returns)

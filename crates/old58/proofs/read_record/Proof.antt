@@ -1,75 +1,39 @@
--- `old58::read_record` meets its contract: each way out is the case of `readingOf` that its tests name.
+-- `old58::read_record` meets its contract: what the judgement is decides, and a sound record is read.
 -- Assumes nothing.
-use Prim.Native.Nat.{ℕ, _-_, _%_, _≤_}
-use mathlib.Core.Path.{_≡_, sym, ap, _∙_}
+use mathlib.Core.Path.{sym, ap, _∙_}
 use mathlib.Core.List.{List}
-use native.Mathlib.Omega.{arith}
-use lib.ListN.{length, take}
-use borrow.Author.Tests.{not-true, not-false}
-use Rattle.checks.specs.Sums.{total}
-use Rattle.old58.specs.declared.Reading.the-variants.{Whole, Refused}
-use Rattle.old58.proofs.Cases.{too-short, too-long, sum-wrong, out-of-range, whole}
+use Prim.Native.Nat.{ℕ}
+use Rattle.old58.specs.declared.Reading.the-variants.{Whole}
+use Rattle.old58.specs.Read.{readAs, readingOf}
 use borrow.Author.Needs.{needs}
 use Rattle.old58.proofs.read_record.Statement.{statement}
 use Rattle.old58.proofs.read_record.Tie as tie
 
-front-sum-requires : tie.Need-front-sum-requires
-front-sum-requires c κs = search needs
+judge-requires : tie.Need-judge-requires
+judge-requires c κs = search needs
 
--- of 58 bytes all but the last are 57
-summed : (s : List ℕ) {r : ℕ} → 58 ≤ length s → length s ≤ 58 → r ≡ total (take (length s - 1) s) % 256 → r ≡ total (take 57 s) % 256
-summed s few many e = let n : length s - 1 ≡ 57 = omega arith in e ∙ ap (λ (k : ℕ). total (take k s) % 256) n
-
-refuse-requires : tie.Need-refuse-requires
-refuse-requires c κs = search needs
-
-returns : tie.Need-returns
-returns c = ap Refused (c .refuse .ensures) ∙ too-short _ (search needs)
-
-refuse-requires-2 : tie.Need-refuse-requires-2
-refuse-requires-2 c κs = search needs
-
-returns-2 : tie.Need-returns-2
-returns-2 c = ap Refused (c .refuse2 .ensures) ∙ too-long _ (search needs) (search needs)
-
-shared-slice-read-if3 : tie.Need-shared-slice-read-if3
-shared-slice-read-if3 c = search needs
-
-refuse-requires-3 : tie.Need-refuse-requires-3
-refuse-requires-3 c κs = search needs
-
-returns-3 : tie.Need-returns-3
-returns-3 c = ap Refused (c .refuse3 .ensures) ∙ sum-wrong _ (search needs) (search needs) (λ e. c .before .if3 .taken (summed (c .before .before .before .before .before .before .before .args .s .now) (search needs) (search needs) (c .before .before .before .before .before .front-sum .ensures) ∙ e))
-
-in-range-requires : tie.Need-in-range-requires
-in-range-requires c κs = search needs
-
-refuse-requires-4 : tie.Need-refuse-requires-4
-refuse-requires-4 c κs = search needs
-
-returns-4 : tie.Need-returns-4
-returns-4 c = ap Refused (c .refuse4 .ensures) ∙ out-of-range _ (search needs) (search needs) (sym (summed (c .before .before .before .before .before .before .before .before .before .args .s .now) (search needs) (search needs) (c .before .before .before .before .before .before .before .front-sum .ensures)) ∙ c .before .before .before .if3 .left) (sym (c .before .before .in-range .ensures) ∙ not-true _ (c .before .if4 .taken))
+enum-told : tie.Need-enum-told
+enum-told c = search needs
 
 record-of-requires : tie.Need-record-of-requires
 record-of-requires c κs = search needs
 
-returns-5 : tie.Need-returns-5
-returns-5 c = ap Whole (c .record-of .ensures) ∙ whole _ (search needs) (search needs) (sym (summed (c .before .before .before .before .before .before .before .before .before .args .s .now) (search needs) (search needs) (c .before .before .before .before .before .before .before .front-sum .ensures)) ∙ c .before .before .before .if3 .left) (sym (c .before .before .in-range .ensures) ∙ not-false _ (c .before .if4 .left))
+enum-known-judged : tie.Need-enum-known-judged
+enum-known-judged c = search needs
+
+returns : tie.Need-returns
+unfolding readingOf
+returns c =
+    let s = c .before .before .before .before .before .args .s .now in
+    ap Whole (c .record-of .ensures) ∙ ap (readAs s) (sym (c .before .enum-told .given .1) ∙ c .before .before .before .judge .ensures)
+
+returns-2 : tie.Need-returns-2
+unfolding readingOf
+returns-2 c =
+    let s = c .before .before .before .before .before .args .s .now in
+    ap (readAs s) (sym (c .before .judged .given .1) ∙ c .before .before .before .judge .ensures)
 
 pub read-record-spec : {M : Type 1} → statement M
 read-record-spec =
     tie.close
-    (tie.spec
-    front-sum-requires
-    refuse-requires
-    returns
-    refuse-requires-2
-    returns-2
-    shared-slice-read-if3
-    refuse-requires-3
-    returns-3
-    in-range-requires
-    refuse-requires-4
-    returns-4
-    record-of-requires
-    returns-5)
+    (tie.spec judge-requires enum-told record-of-requires enum-known-judged returns returns-2)

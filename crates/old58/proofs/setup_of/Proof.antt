@@ -5,11 +5,11 @@ use borrow.Author.Needs.{needs}
 use Rattle.old58.proofs.setup_of.Statement.{statement}
 use Rattle.old58.proofs.setup_of.Tie as tie
 
-shared-slice-read-t3 : tie.Need-shared-slice-read-t3
-shared-slice-read-t3 c = search needs
+byte-at-requires : tie.Need-byte-at-requires
+byte-at-requires c κs = search needs
 
-shared-slice-read-t5 : tie.Need-shared-slice-read-t5
-shared-slice-read-t5 c = search needs
+byte-at-requires-2 : tie.Need-byte-at-requires-2
+byte-at-requires-2 c κs = search needs
 
 two-at-requires : tie.Need-two-at-requires
 two-at-requires c κs = search needs
@@ -25,14 +25,16 @@ two-at-requires-4 c κs = search needs
 
 returns : tie.Need-returns
 unfolding setupOf
-returns c = rw (c .before .before .before .two-at .ensures, c .before .before .two-at2 .ensures, c .before .two-at3 .ensures, c .two-at4 .ensures)
+returns c =
+    let minute = c .before .before .before .before in
+    rw (minute .before .byte-at .ensures, minute .byte-at2 .ensures, c .before .before .before .two-at .ensures, c .before .before .two-at2 .ensures, c .before .two-at3 .ensures, c .two-at4 .ensures)
 
 pub setup-of-spec : {M : Type 1} → statement M
 setup-of-spec =
     tie.close
     (tie.spec
-    shared-slice-read-t3
-    shared-slice-read-t5
+    byte-at-requires
+    byte-at-requires-2
     two-at-requires
     two-at-requires-2
     two-at-requires-3

@@ -1,27 +1,25 @@
--- `old58::three_at` meets its contract: the bytes after the one at `byte` are those at the next indices; three bytes are below 2 ^ 24.
+-- `old58::three_at` meets its contract: the bytes are handed on; three bytes are below 2 ^ 24.
 -- Assumes nothing.
-use mathlib.Core.Path.{_≡_}
-use Prim.Native.Nat.{ℕ, _+_, _-_}
 use native.Mathlib.Omega.{arith}
 use Rattle.old58.specs.Record.{threeAt}
 use borrow.Author.Needs.{needs}
 use Rattle.old58.proofs.three_at.Statement.{statement}
 use Rattle.old58.proofs.three_at.Tie as tie
 
-sub-number24 : tie.Need-sub-number24
-sub-number24 c = search needs
+byte-at-requires : tie.Need-byte-at-requires
+byte-at-requires c κs = search needs
 
-shared-slice-read-number24 : tie.Need-shared-slice-read-number24
-shared-slice-read-number24 c = search needs
+add-byte-at : tie.Need-add-byte-at
+add-byte-at c = search needs
 
-shared-slice-read-number24-2 : tie.Need-shared-slice-read-number24-2
-shared-slice-read-number24-2 c = search needs
+byte-at-requires-2 : tie.Need-byte-at-requires-2
+byte-at-requires-2 c κs = search needs
 
-add-number24 : tie.Need-add-number24
-add-number24 c = search needs
+add-byte-at-2 : tie.Need-add-byte-at-2
+add-byte-at-2 c = search needs
 
-shared-slice-read-number24-3 : tie.Need-shared-slice-read-number24-3
-shared-slice-read-number24-3 c = search needs
+byte-at-requires-3 : tie.Need-byte-at-requires-3
+byte-at-requires-3 c κs = search needs
 
 number24-requires : tie.Need-number24-requires
 number24-requires c κs = search needs
@@ -29,20 +27,17 @@ number24-requires c κs = search needs
 returns : tie.Need-returns
 unfolding threeAt
 returns c =
-    let n = c .before .before .before .before .before .args .byte in
-    let byte = c .before .before .before .before .shared-slice-known .given in
-    let e : n + 1 - 1 ≡ n = omega arith in
-    let f : n + 2 - 1 ≡ n + 1 = omega arith in
-    (rw (e, f) (c .number24 .ensures), omega (arith, c .number24 .ensures, byte (n - 1), byte n, byte (n + 1)))
+    let last = c .before in
+    (rw (← last .before .before .byte-at .ensures, ← last .before .byte-at2 .ensures, ← last .byte-at3 .ensures) (c .number24 .ensures), omega (arith, c .number24 .ensures, last .before .before .byte-at .ok, last .before .byte-at2 .ok, last .byte-at3 .ok))
 
 pub three-at-spec : {M : Type 1} → statement M
 three-at-spec =
     tie.close
     (tie.spec
-    sub-number24
-    shared-slice-read-number24
-    shared-slice-read-number24-2
-    add-number24
-    shared-slice-read-number24-3
+    byte-at-requires
+    add-byte-at
+    byte-at-requires-2
+    add-byte-at-2
+    byte-at-requires-3
     number24-requires
     returns)
