@@ -2,6 +2,7 @@ pub mod Below
 pub mod Differences
 pub mod Entries
 pub mod Filling
+pub mod Firsts
 pub mod Fronts
 pub mod Ladders
 pub mod Promises
