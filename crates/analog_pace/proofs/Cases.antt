@@ -8,8 +8,8 @@ use borrow.Author.Tests.{eq-eqb, ne-eqb}
 use borrow.Rule.Slice.PartMut.{putMid}
 use lib.IntN.{ℤ, pos}
 use lib.ListN.{length, getD, take, drop, replicate}
+use Rattle.laws.proofs.Firsts.{firsts-front}
 use Rattle.characters_pace.specs.Characters.{wordAt, wordsAt}
-use Rattle.characters_pace.proofs.Firsts.{firsts-front}
 use Rattle.counts_pace.specs.declared.Counts.{Counts}
 use Rattle.counts_pace.specs.declared.Counts.the-variants.{Are, Wrong}
 use Rattle.counts_pace.specs.Counts.{countsOf}

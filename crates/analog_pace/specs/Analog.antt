@@ -8,9 +8,10 @@ use lib.Dec.{eqb}
 use lib.IntN.{ℤ, pos, _-ℤ_}
 use lib.ListN.{getD, drop, replicate}
 use Rattle.laws.specs.Choice.{pick}
+use Rattle.laws.specs.Firsts.{firsts}
 use Rattle.numbers.specs.Signed.{signedOf}
 use Rattle.refusals.specs.Refused.{refusedWith, shape}
-use Rattle.characters_pace.specs.Characters.{wordAt, firsts, wordsAt}
+use Rattle.characters_pace.specs.Characters.{wordAt, wordsAt}
 use Rattle.counts_pace.specs.declared.Counts.{Counts}
 use Rattle.counts_pace.specs.declared.Counts.the-variants.{Are, Wrong}
 use Rattle.counts_pace.specs.Counts.{countsOf}

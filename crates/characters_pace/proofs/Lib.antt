@@ -1,4 +1,3 @@
 pub mod Carried
-pub mod Firsts
 pub mod Halves
 pub mod Tests

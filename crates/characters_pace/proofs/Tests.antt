@@ -8,17 +8,9 @@ use lib.ListN.{length, getD, drop}
 use lib.Dec.{eqb}
 use native.Mathlib.Omega.{arith}
 use Rattle.laws.specs.Choice.{pick}
-use Rattle.laws.proofs.Ladders.{both}
+use Rattle.laws.proofs.Ladders.{both, and-true, and-false}
 use Rattle.laws.proofs.Walk.{left-next, left-none}
 use Rattle.characters_pace.specs.Characters.{allOf}
-
-and-true : (b : Bool) → b && true ≡ b
-and-true true = refl
-and-true false = refl
-
-and-false : (b : Bool) → b && false ≡ false
-and-false true = refl
-and-false false = refl
 
 -- the answer t of one test more
 noted-next : (t : Bool) (w : ℕ) (rest whole : Bool) → eqb w 0 && (t && rest) ≡ whole → eqb (pick t w 1) 0 && rest ≡ whole

@@ -2,10 +2,11 @@
 -- Assumes nothing.
 use mathlib.Core.Bool.{Bool, true, false, _&&_}
 use mathlib.Core.List.{List, [], _∷_, _++_}
-use Prim.Native.Nat.{ℕ, zero, suc, _+_, _*_, _/_, _%_}
+use Prim.Native.Nat.{ℕ, _+_, _*_, _/_, _%_}
 use lib.Dec.{ltb}
 use lib.ListN.{length, getD, drop}
 use Rattle.laws.specs.Choice.{pick}
+use Rattle.laws.specs.Firsts.{firsts}
 use Rattle.digits.specs.declared.Hex.{Hex}
 use Rattle.digits.specs.declared.Hex.the-variants.{Value, Other}
 use Rattle.digits.specs.Hexes.{digitOf, byteOf, charOf}
@@ -48,11 +49,6 @@ hexed s = halves (λ b. charOf (b / 16)) (λ b. charOf (b % 16)) s
 -- the number of the two bytes from place i on
 abbrev pub wordAt : List ℕ → ℕ → ℕ
 wordAt d i = numberOf HighFirst (getD d i 0 ∷ getD d (i + 1) 0 ∷ [])
-
--- what f gives at 0, 1, .., k - 1
-unfoldable pub firsts : {A : Type 0} → (ℕ → A) → ℕ → List A
-firsts f zero = []
-firsts f (suc k) = firsts f k ++ (f k ∷ [])
 
 -- k bytes from a place on
 abbrev pub bytesAt : ℕ → ℕ → List ℕ → List ℕ

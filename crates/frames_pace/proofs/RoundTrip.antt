@@ -7,6 +7,8 @@ use Prim.Native.Nat.{ℕ, zero, suc, _+_, _-_, _*_, _/_, _%_, _<_, _≤_}
 use native.Mathlib.Omega.{arith}
 use lib.Dec.{lit<}
 use lib.ListN.{length, getD, take, drop}
+use Rattle.laws.specs.Firsts.{firsts}
+use Rattle.laws.proofs.Firsts.{listed}
 use Rattle.checks.specs.Sums.{total, closing, closes}
 use Rattle.checks.proofs.Closing.{closing-lt, test-closing, test-only}
 use Rattle.digits.specs.declared.Length.the-variants.{Is}
@@ -17,11 +19,10 @@ use Rattle.numbers.specs.declared.Order.the-variants.{HighFirst}
 use Rattle.numbers.specs.Bytes.{bytesOf}
 use Rattle.numbers.proofs.Orders.{Bytes, written-reads-back, read-writes-back}
 use Rattle.frames_pace.specs.declared.Frame.the-variants.{Whole}
-use Rattle.characters_pace.specs.Characters.{isValue, allHex, bytesIn, hexed, wordAt, firsts}
+use Rattle.characters_pace.specs.Characters.{isValue, allHex, bytesIn, hexed, wordAt}
 use Rattle.frames_pace.specs.Frame.{innerOf, headOf, coveredOf, checkOf, infoOf, payloadOf, frameOf}
 use Rattle.frames_pace.specs.Written.{headBytes, bodyChars, endChars, frameChars}
 use Rattle.characters_pace.proofs.Carried.{hexed-length, hexed-all, hexed-reads-back, bytes-length, bytes-small, read-writes-back as hexes-back}
-use Rattle.characters_pace.proofs.Firsts.{listed}
 use Rattle.characters_pace.proofs.Tests.{all-append, all-split}
 use Rattle.frames_pace.proofs.Cases.{whole}
 use Rattle.frames_pace.proofs.Parts.{Cut, pieces, cut-pieces, head-length, info-length, check-length, in-pieces}

@@ -1,14 +1,14 @@
 -- What `begin` and `seal` leave in the lent room, and that around its data the two make a frame.
 -- A run of stores is a list put in place of the front; a part that was lent comes back between what was before and after it. Assumes nothing.
 use mathlib.Core.Path.{_≡_, refl, sym, ap, ap₂, _∙_}
-use mathlib.Core.Bool.{Bool, true, false}
+use mathlib.Core.Bool.{true}
 use mathlib.Core.List.{List, [], _∷_, _++_, append-assoc, append-nil}
-use Prim.Native.Nat.{ℕ, _+_, _-_, _<_, _≤_}
+use Prim.Native.Nat.{ℕ, _+_, _-_, _≤_}
 use native.Mathlib.Omega.{arith}
-use borrow.Author.Tests.{le-leb, lt-leb}
 use borrow.Rule.Slice.PartMut.{putMid}
 use lib.ListN.{length, take, drop, set, length-append, length-drop}
 use lib.Seq.{sets, sets-eq, take-at, drop-at, drop-append-add, drop-drop, drop-length}
+use Rattle.laws.proofs.Fitting.{fitting}
 use Rattle.checks.specs.Crc.{crcOf}
 use Rattle.frames_pathfinder.specs.Writing.{headOf, coveredOf, endOf, frameBytes, fits, begun, sealed}
 
@@ -19,42 +19,25 @@ all-of vs l e =
     sets-eq vs l 0 (omega arith) ∙ rw (z, drop-length l) (append-nil vs)
 
 module _ (len : ℕ) (out : List ℕ) where
-  -- ---- where there is no room, or the length would be over 255, nothing changes
+  module _ (small : len ≤ 254) (room : len + 6 ≤ length out) where
+    it-fits : fits len out ≡ true
+    it-fits = fitting 254 len (len + 6) (length out) small room
 
-  pub begin-nothing : (op : ℕ) → fits len out ≡ false → out ≡ begun op len out
-  unfolding begun
-  begin-nothing op h = rw h
+    pub begun-is : (op : ℕ) → set (set (set out 0 0xFE) 1 (len + 1)) 2 op ≡ begun op len out
+    unfolding begun
+    begun-is op = rw it-fits (sets-eq (headOf op len) out 0 (omega arith))
 
-  pub seal-nothing : fits len out ≡ false → out ≡ sealed len out
-  unfolding sealed
-  seal-nothing h = rw h
+    pub begun-front : (op : ℕ) → begun op len out ≡ headOf op len ++ drop 3 out
+    unfolding begun
+    begun-front op = rw it-fits
 
-  pub too-long : 254 < len → fits len out ≡ false
-  too-long h = simp (lt-leb _ _ h)
-
-  module _ (small : len ≤ 254) where
-    pub no-room : length out < len + 6 → fits len out ≡ false
-    no-room h = simp (le-leb _ _ small, lt-leb _ _ h)
-
-    module _ (room : len + 6 ≤ length out) where
-      fitting : fits len out ≡ true
-      fitting = simp (le-leb _ _ small, le-leb _ _ room)
-
-      pub begun-is : (op : ℕ) → set (set (set out 0 0xFE) 1 (len + 1)) 2 op ≡ begun op len out
-      unfolding begun
-      begun-is op = rw fitting (sets-eq (headOf op len) out 0 (omega arith))
-
-      pub begun-front : (op : ℕ) → begun op len out ≡ headOf op len ++ drop 3 out
-      unfolding begun
-      begun-front op = rw fitting
-
-      pub sealed-is : (sum : ℕ) (ys : List ℕ) → sum ≡ crcOf (take (len + 3 - 1) (drop 1 out)) → ys ≡ endOf sum
-          → putMid (len + 3) (len + 6 - (len + 3)) out ys ≡ sealed len out
-      unfolding sealed
-      sealed-is sum ys e y =
-          let k : len + 3 - 1 ≡ len + 2 = omega arith in
-          let m : len + 3 + (len + 6 - (len + 3)) ≡ len + 6 = omega arith in
-          rw (fitting, drop-drop, m, y, e, k)
+    pub sealed-is : (sum : ℕ) (ys : List ℕ) → sum ≡ crcOf (take (len + 3 - 1) (drop 1 out)) → ys ≡ endOf sum
+        → putMid (len + 3) (len + 6 - (len + 3)) out ys ≡ sealed len out
+    unfolding sealed
+    sealed-is sum ys e y =
+        let k : len + 3 - 1 ≡ len + 2 = omega arith in
+        let m : len + 3 + (len + 6 - (len + 3)) ≡ len + 6 = omega arith in
+        rw (it-fits, drop-drop, m, y, e, k)
 
 -- data that stand after their head, with room for the end after them, sealed
 sealed-frame : (op : ℕ) (load rest : List ℕ) → length load ≤ 254 → 3 ≤ length rest
@@ -70,7 +53,7 @@ sealed-frame op load rest small some =
     let e : length load + 6 ≡ length head + 3 = omega arith in
     let back : drop (length load + 6) (head ++ rest) ≡ drop 3 rest =
     ap (λ (i : ℕ). drop i (head ++ rest)) e ∙ drop-append-add head rest 3 in
-    rw (fitting (length load) (head ++ rest) small room)
+    rw (it-fits (length load) (head ++ rest) small room)
     (rw (front, back)
     (ap (λ (l : List ℕ). head ++ (endOf (crcOf l) ++ drop 3 rest)) sum ∙ sym (append-assoc head (endOf (crcOf (coveredOf op load))) (drop 3 rest))))
 

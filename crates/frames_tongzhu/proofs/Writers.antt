@@ -2,52 +2,35 @@
 -- A run of stores is a list put in place of the front; a part that was lent comes back between what was before and after it. Assumes
 -- nothing.
 use mathlib.Core.Path.{_≡_, sym, ap, _∙_}
-use mathlib.Core.Bool.{true, false}
+use mathlib.Core.Bool.{true}
 use mathlib.Core.List.{List, [], _∷_, _++_, append-assoc}
-use Prim.Native.Nat.{ℕ, suc, _+_, _-_, _<_, _≤_}
+use Prim.Native.Nat.{ℕ, suc, _+_, _-_, _≤_}
 use native.Mathlib.Omega.{arith}
-use borrow.Author.Tests.{le-leb, lt-leb}
 use lib.ListN.{length, take, drop, set, length-append, length-drop}
 use lib.Seq.{sets-eq, set-split, take-at, drop-append-add, drop-drop}
+use Rattle.laws.proofs.Fitting.{fitting}
 use Rattle.checks.specs.Sums.{total, closing}
 use Rattle.frames_tongzhu.specs.Writing.{headOf, bodyOf, frameBytes, fits, begun, sealed}
 
 module _ (len : ℕ) (out : List ℕ) where
-  -- ---- where there is no room, or LEN would be over 255, nothing changes
+  module _ (short : len ≤ 249) (room : len + 6 ≤ length out) where
+    it-fits : fits len out ≡ true
+    it-fits = fitting 249 len (len + 6) (length out) short room
 
-  pub begin-nothing : (f : ℕ) → fits len out ≡ false → out ≡ begun f len out
-  unfolding begun
-  begin-nothing f h = rw h
+    pub begun-is : (f : ℕ) → set (set (set (set (set out 0 0x7F) 1 0x10) 2 0x02) 3 (len + 6)) 4 f ≡ begun f len out
+    unfolding begun
+    begun-is f = rw it-fits (sets-eq (headOf f len) out 0 (omega arith))
 
-  pub seal-nothing : fits len out ≡ false → out ≡ sealed len out
-  unfolding sealed
-  seal-nothing h = rw h
+    pub begun-front : (f : ℕ) → begun f len out ≡ headOf f len ++ drop 5 out
+    unfolding begun
+    begun-front f = rw it-fits
 
-  pub too-long : 249 < len → fits len out ≡ false
-  too-long h = simp (lt-leb _ _ h)
-
-  module _ (short : len ≤ 249) where
-    pub no-room : length out < len + 6 → fits len out ≡ false
-    no-room h = simp (le-leb _ _ short, lt-leb _ _ h)
-
-    module _ (room : len + 6 ≤ length out) where
-      fitting : fits len out ≡ true
-      fitting = simp (le-leb _ _ short, le-leb _ _ room)
-
-      pub begun-is : (f : ℕ) → set (set (set (set (set out 0 0x7F) 1 0x10) 2 0x02) 3 (len + 6)) 4 f ≡ begun f len out
-      unfolding begun
-      begun-is f = rw fitting (sets-eq (headOf f len) out 0 (omega arith))
-
-      pub begun-front : (f : ℕ) → begun f len out ≡ headOf f len ++ drop 5 out
-      unfolding begun
-      begun-front f = rw fitting
-
-      pub sealed-is : (check : ℕ) → check ≡ closing 256 (total (take (len + 5 - 0) out)) → set out (len + 5) check ≡ sealed len out
-      unfolding sealed
-      sealed-is check e =
-          let k : len + 5 - 0 ≡ len + 5 = omega arith in
-          let n : suc (len + 5) ≡ len + 6 = omega arith in
-          rw fitting (set-split out (len + 5) check (omega arith) ∙ rw (n, e, k))
+    pub sealed-is : (check : ℕ) → check ≡ closing 256 (total (take (len + 5 - 0) out)) → set out (len + 5) check ≡ sealed len out
+    unfolding sealed
+    sealed-is check e =
+        let k : len + 5 - 0 ≡ len + 5 = omega arith in
+        let n : suc (len + 5) ≡ len + 6 = omega arith in
+        rw it-fits (set-split out (len + 5) check (omega arith) ∙ rw (n, e, k))
 
 -- a payload that stands after its head, with something after it, sealed
 sealed-frame : (f : ℕ) (load rest : List ℕ) → length load ≤ 249 → 1 ≤ length rest
@@ -61,7 +44,7 @@ sealed-frame f load rest short some =
     let e : length load + 6 ≡ length body + 1 = omega arith in
     let back : drop (length load + 6) (body ++ rest) ≡ drop 1 rest =
     ap (λ (i : ℕ). drop i (body ++ rest)) e ∙ drop-append-add body rest 1 in
-    rw (fitting (length load) (body ++ rest) short room)
+    rw (it-fits (length load) (body ++ rest) short room)
     (rw (front, back) (sym (append-assoc body (closing 256 (total body) ∷ []) (drop 1 rest))))
 
 -- the room that was begun, has the payload in its place and is sealed: the frame, and what was there past it

@@ -1,9 +1,10 @@
 -- Single values at a place of a payload, and a list of them in an array (002, 2 and 6.1.3; 01, Tongzhu: numbers low byte first).
 -- Assumes nothing.
-use Prim.Native.Nat.{ℕ, zero, suc, _+_}
+use Prim.Native.Nat.{ℕ, _+_}
 use mathlib.Core.List.{List, [], _∷_, _++_}
 use lib.IntN.{ℤ}
 use lib.ListN.{getD, drop, replicate}
+use Rattle.laws.specs.Firsts.{firsts}
 use Rattle.numbers.specs.declared.Order.the-variants.{LowFirst}
 use Rattle.numbers.specs.Bytes.{numberOf}
 use Rattle.numbers.specs.Signed.{signedOf}
@@ -29,11 +30,6 @@ statusAt p i = record {
   third = getD p (i + 2) 0;
   fourth = getD p (i + 3) 0;
 }
-
--- what f gives at 0 to n - 1
-unfoldable pub firsts : {A : Type 0} → (ℕ → A) → ℕ → List A
-firsts f zero = []
-firsts f (suc n) = firsts f n ++ (f n ∷ [])
 
 -- an array of k places that held z, filled from the front with what f gives at 0 to n - 1 (01: array places past a count 0)
 abbrev pub placesOf : {A : Type 0} → ℕ → A → (ℕ → A) → ℕ → List A

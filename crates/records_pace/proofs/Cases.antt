@@ -8,10 +8,10 @@ use borrow.Author.Tests.{eq-eqb, ne-eqb}
 use borrow.Rule.Slice.PartMut.{putMid}
 use lib.IntN.{pos}
 use lib.ListN.{length, getD, take, drop, replicate}
+use Rattle.laws.proofs.Firsts.{firsts-front}
 use Rattle.refusals.specs.declared.Refusal.{Refusal}
 use Rattle.refusals.specs.Refused.{refusedWith, address, request, shape}
 use Rattle.characters_pace.specs.Characters.{bytesIn, bytesAt}
-use Rattle.characters_pace.proofs.Firsts.{firsts-front}
 use Rattle.frames_pace.specs.declared.Frame.the-variants as frame
 use Rattle.frames_pace.specs.Frame.{infoOf, frameOf}
 use Rattle.rows_pace.specs.declared.Command.{Command}

@@ -9,12 +9,13 @@ use borrow.Author.Tests.{eqb-true}
 use lib.Dec.{lit≤, eqb}
 use lib.ListN.{length, getD, take, drop}
 use lib.Seq.{take-at}
+use Rattle.laws.specs.Firsts.{firsts}
+use Rattle.laws.proofs.Firsts.{listed}
 use Rattle.laws.proofs.Ladders.{into, both}
 use Rattle.numbers.proofs.Orders.{Bytes}
 use Rattle.refusals.specs.declared.Refusal.{Refusal}
-use Rattle.characters_pace.specs.Characters.{bytesIn, firsts}
+use Rattle.characters_pace.specs.Characters.{bytesIn}
 use Rattle.characters_pace.proofs.Carried.{bytes-length}
-use Rattle.characters_pace.proofs.Firsts.{listed}
 use Rattle.frames_pace.specs.declared.Frame.{Frame as AFrame}
 use Rattle.frames_pace.specs.declared.Frame.the-variants as frame
 use Rattle.frames_pace.specs.declared.Written.the-variants.{Frame, Refused}

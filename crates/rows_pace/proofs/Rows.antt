@@ -6,8 +6,8 @@ use Prim.Native.Nat.{ℕ, _<_, _≤_}
 use native.Mathlib.Omega.{arith}
 use lib.Dec.{lit<, lit≤}
 use lib.ListN.{length, List·getD-append}
-use Rattle.characters_pace.specs.Characters.{firsts}
-use Rattle.characters_pace.proofs.Firsts.{listed}
+use Rattle.laws.specs.Firsts.{firsts}
+use Rattle.laws.proofs.Firsts.{listed}
 use Rattle.rows_pace.specs.declared.Setting.{Setting}
 use Rattle.rows_pace.specs.declared.Setting.the-variants.{Overvoltage, Discharge}
 use Rattle.rows_pace.specs.declared.Values.{Values}

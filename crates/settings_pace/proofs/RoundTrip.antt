@@ -10,11 +10,12 @@ use borrow.Author.Tests.{eq-eqb, eqb-true, leb-true}
 use lib.Dec.{lit<, leb, eqb}
 use lib.ListN.{length, getD, length-append}
 use lib.Seq.{getD-at}
+use Rattle.laws.specs.Firsts.{firsts}
+use Rattle.laws.proofs.Firsts.{firsts-length, firsts-cons, firsts-same}
 use Rattle.laws.proofs.Ladders.{into, both}
 use Rattle.numbers.proofs.Orders.{Bytes}
 use Rattle.refusals.specs.declared.Refusal.{Refusal}
-use Rattle.characters_pace.specs.Characters.{allOf, halves, wordAt, firsts, wordsAt}
-use Rattle.characters_pace.proofs.Firsts.{firsts-length, firsts-cons, firsts-same}
+use Rattle.characters_pace.specs.Characters.{allOf, halves, wordAt, wordsAt}
 use Rattle.characters_pace.proofs.Halves.{halves-length}
 use Rattle.rows_pace.specs.declared.Setting.{Setting}
 use Rattle.rows_pace.specs.declared.Setting.the-variants.{Overvoltage, Discharge}

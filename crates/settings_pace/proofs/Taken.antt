@@ -8,9 +8,9 @@ use native.Mathlib.Omega.{arith}
 use borrow.Rule.Slice.PartMut.{putMid}
 use lib.ListN.{length, getD, take, drop, replicate, length-append, length-drop, length-map}
 use Rattle.laws.proofs.Filling.{front-length, front-filled, front-taken, front-again}
+use Rattle.laws.proofs.Firsts.{firsts-length}
 use Rattle.refusals.specs.Refused.{refusedWith, shape, range}
 use Rattle.characters_pace.specs.Characters.{allOf, wordAt, wordsAt}
-use Rattle.characters_pace.proofs.Firsts.{firsts-length}
 use Rattle.rows_pace.specs.declared.Setting.{Setting}
 use Rattle.rows_pace.specs.declared.Row.{Row}
 use Rattle.rows_pace.specs.declared.Values.{Values}

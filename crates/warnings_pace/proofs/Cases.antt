@@ -6,8 +6,8 @@ use mathlib.Core.List.{List, _++_}
 use Prim.Native.Nat.{ℕ, _+_, _-_, _≤_}
 use borrow.Rule.Slice.PartMut.{putMid}
 use lib.ListN.{length, getD, take, drop, replicate}
+use Rattle.laws.proofs.Firsts.{firsts-front}
 use Rattle.characters_pace.specs.Characters.{bytesAt}
-use Rattle.characters_pace.proofs.Firsts.{firsts-front}
 use Rattle.counts_pace.specs.declared.Counts.the-variants.{Are, Wrong}
 use Rattle.counts_pace.specs.Counts.{countsOf}
 use Rattle.warnings_pace.specs.declared.Warnings.{Warnings}

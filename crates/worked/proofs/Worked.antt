@@ -2,6 +2,7 @@
 -- Assumes nothing.
 use mathlib.Core.Path.{_≡_, refl}
 use mathlib.Core.Bool.{true}
+use Rattle.laws.specs.Firsts.{firsts}
 use Rattle.checks.specs.Crc.{shift, shifts, crcFrom, crcOf}
 use Rattle.checks.specs.Sums.{total}
 use Rattle.digits.specs.Lengths.{wordOf}
@@ -10,7 +11,7 @@ use Rattle.calendar.specs.Dates.{leap, days, daysIn, realDate, realTime}
 use Rattle.frames_tongzhu.specs.Functions.{kindOf}
 use Rattle.frames_tongzhu.specs.Writing.{frameBytes}
 use Rattle.requests_tongzhu.specs.Requests.{wireOf}
-use Rattle.characters_pace.specs.Characters.{allOf, halves, firsts}
+use Rattle.characters_pace.specs.Characters.{allOf, halves}
 use Rattle.rows_pace.specs.Rows.{rowOf}
 use Rattle.rows_pace.specs.Info.{payload}
 use Rattle.settings_pace.specs.Reading.{shaped, amountOf, replyOf}

@@ -9,8 +9,9 @@ use lib.ListN.{length, drop, replicate, length-set}
 use mir.Syntax.{w32}
 use mir.Val.{toZ, ofZ}
 use borrow.Author.Needs.{needs}
-use Rattle.characters_pace.specs.Characters.{bytesIn, wordAt, firsts}
-use Rattle.characters_pace.proofs.Firsts.{firsts-more}
+use Rattle.laws.specs.Firsts.{firsts}
+use Rattle.laws.proofs.Firsts.{firsts-more}
+use Rattle.characters_pace.specs.Characters.{bytesIn, wordAt}
 use Rattle.analog_pace.specs.Analog.{tenthsOf, tenthsAt}
 use Rattle.analog_pace.proofs.temperatures_of.Statement.{statement}
 use Rattle.analog_pace.proofs.temperatures_of.Tie as tie

@@ -5,8 +5,9 @@ use mathlib.Core.Path.{_≡_, refl}
 use mathlib.Core.List.{_++_}
 use native.Mathlib.Omega.{arith}
 use lib.ListN.{length, drop, length-set}
-use Rattle.characters_pace.specs.Characters.{firsts, bytesIn, wordAt}
-use Rattle.characters_pace.proofs.Firsts.{firsts-more, firsts-all}
+use Rattle.laws.specs.Firsts.{firsts}
+use Rattle.laws.proofs.Firsts.{firsts-more, firsts-all}
+use Rattle.characters_pace.specs.Characters.{bytesIn, wordAt}
 use Rattle.characters_pace.proofs.words_of.Statement.{statement}
 use Rattle.characters_pace.proofs.words_of.Tie as tie
 

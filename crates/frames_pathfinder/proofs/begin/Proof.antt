@@ -1,8 +1,11 @@
 -- `frames_pathfinder::begin` meets its contract: three stores, or nothing where the frame does not fit.
 -- Assumes nothing.
+use Prim.Native.Nat.{_+_}
 use native.Mathlib.Omega.{arith}
-use lib.ListN.{length-set}
-use Rattle.frames_pathfinder.proofs.Writers.{begun-is, begin-nothing, too-long, no-room}
+use lib.ListN.{length, length-set}
+use Rattle.laws.proofs.Fitting.{too-long, no-room}
+use Rattle.frames_pathfinder.specs.Writing.{begun}
+use Rattle.frames_pathfinder.proofs.Writers.{begun-is}
 use borrow.Author.Needs.{needs}
 use Rattle.frames_pathfinder.proofs.begin.Statement.{statement}
 use Rattle.frames_pathfinder.proofs.begin.Tie as tie
@@ -32,10 +35,12 @@ returns : tie.Need-returns
 returns c = let a = c .before .before .args in begun-is (a .len) (a .out .now) (omega arith) (omega arith) (a .opcode)
 
 returns-2 : tie.Need-returns-2
-returns-2 c = let a = c .before .before .args in begin-nothing (a .len) (a .out .now) (a .opcode) (no-room (a .len) (a .out .now) (omega arith) (omega arith))
+unfolding begun
+returns-2 c = let a = c .before .before .args in no-room 254 (a .len) (a .len + 6) (length (a .out .now)) _ (a .out .now) (omega arith) (omega arith)
 
 returns-3 : tie.Need-returns-3
-returns-3 c = let a = c .before .args in begin-nothing (a .len) (a .out .now) (a .opcode) (too-long (a .len) (a .out .now) (omega arith))
+unfolding begun
+returns-3 c = let a = c .before .args in too-long 254 (a .len) (a .len + 6) (length (a .out .now)) _ (a .out .now) (omega arith)
 
 pub begin-spec : {M : Type 1} → statement M
 begin-spec =

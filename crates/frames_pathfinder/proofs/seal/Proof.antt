@@ -1,7 +1,11 @@
 -- `frames_pathfinder::seal` meets its contract: the part for checksum and end mark comes back written, or nothing changes.
 -- Assumes nothing.
+use Prim.Native.Nat.{_+_}
 use native.Mathlib.Omega.{arith}
-use Rattle.frames_pathfinder.proofs.Writers.{sealed-is, seal-nothing, too-long, no-room}
+use lib.ListN.{length}
+use Rattle.laws.proofs.Fitting.{too-long, no-room}
+use Rattle.frames_pathfinder.specs.Writing.{sealed}
+use Rattle.frames_pathfinder.proofs.Writers.{sealed-is}
 use borrow.Author.Needs.{needs}
 use Rattle.frames_pathfinder.proofs.seal.Statement.{statement}
 use Rattle.frames_pathfinder.proofs.seal.Tie as tie
@@ -52,10 +56,12 @@ returns c =
     sealed-is (a .len) (a .out .now) (omega arith) (omega arith) (summed .crc16 .result) _ (summed .crc16 .ensures) (c .before .before .put-end .ensures)
 
 returns-2 : tie.Need-returns-2
-returns-2 c = let a = c .before .before .before .args in seal-nothing (a .len) (a .out .now) (no-room (a .len) (a .out .now) (omega arith) (omega arith))
+unfolding sealed
+returns-2 c = let a = c .before .before .before .args in no-room 254 (a .len) (a .len + 6) (length (a .out .now)) _ (a .out .now) (omega arith) (omega arith)
 
 returns-3 : tie.Need-returns-3
-returns-3 c = let a = c .before .before .args in seal-nothing (a .len) (a .out .now) (too-long (a .len) (a .out .now) (omega arith))
+unfolding sealed
+returns-3 c = let a = c .before .before .args in too-long 254 (a .len) (a .len + 6) (length (a .out .now)) _ (a .out .now) (omega arith)
 
 pub seal-spec : {M : Type 1} → statement M
 seal-spec =

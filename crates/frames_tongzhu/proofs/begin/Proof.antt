@@ -1,10 +1,13 @@
 -- `frames_tongzhu::begin` meets its contract: five stores put the head in place of the front; where the frame has no room nothing was
 -- stored.
 -- Assumes nothing.
+use Prim.Native.Nat.{_+_}
 use native.Mathlib.Omega.{arith}
 use borrow.Author.Needs.{needs}
-use lib.ListN.{length-set}
-use Rattle.frames_tongzhu.proofs.Writers.{begun-is, begin-nothing, no-room, too-long}
+use lib.ListN.{length, length-set}
+use Rattle.laws.proofs.Fitting.{too-long, no-room}
+use Rattle.frames_tongzhu.specs.Writing.{begun}
+use Rattle.frames_tongzhu.proofs.Writers.{begun-is}
 use Rattle.frames_tongzhu.proofs.begin.Statement.{statement}
 use Rattle.frames_tongzhu.proofs.begin.Tie as tie
 
@@ -39,12 +42,12 @@ returns : tie.Need-returns
 returns c = let a = c .before .before .args in begun-is (a .len) (a .out .now) (omega arith) (omega arith) (a .function)
 
 returns-2 : tie.Need-returns-2
-returns-2 c =
-    let a = c .before .before .args in
-    begin-nothing (a .len) (a .out .now) (a .function) (no-room (a .len) (a .out .now) (omega arith) (omega arith))
+unfolding begun
+returns-2 c = let a = c .before .before .args in no-room 249 (a .len) (a .len + 6) (length (a .out .now)) _ (a .out .now) (omega arith) (omega arith)
 
 returns-3 : tie.Need-returns-3
-returns-3 c = let a = c .before .args in begin-nothing (a .len) (a .out .now) (a .function) (too-long (a .len) (a .out .now) (omega arith))
+unfolding begun
+returns-3 c = let a = c .before .args in too-long 249 (a .len) (a .len + 6) (length (a .out .now)) _ (a .out .now) (omega arith)
 
 pub begin-spec : {M : Type 1} → statement M
 begin-spec =

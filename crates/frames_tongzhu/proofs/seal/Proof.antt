@@ -1,9 +1,13 @@
 -- `frames_tongzhu::seal` meets its contract: the check is what closes the sum of all before it; where the frame has no room nothing was
 -- stored.
 -- Assumes nothing.
+use Prim.Native.Nat.{_+_}
 use native.Mathlib.Omega.{arith}
+use lib.ListN.{length}
 use borrow.Author.Needs.{needs}
-use Rattle.frames_tongzhu.proofs.Writers.{sealed-is, seal-nothing, no-room, too-long}
+use Rattle.laws.proofs.Fitting.{too-long, no-room}
+use Rattle.frames_tongzhu.specs.Writing.{sealed}
+use Rattle.frames_tongzhu.proofs.Writers.{sealed-is}
 use Rattle.frames_tongzhu.proofs.seal.Statement.{statement}
 use Rattle.frames_tongzhu.proofs.seal.Tie as tie
 
@@ -40,12 +44,12 @@ returns c =
     sealed-is (a .len) (a .out .now) (omega arith) (omega arith) _ (c .close256 .ensures)
 
 returns-2 : tie.Need-returns-2
-returns-2 c =
-    let a = c .before .before .before .args in
-    seal-nothing (a .len) (a .out .now) (no-room (a .len) (a .out .now) (omega arith) (omega arith))
+unfolding sealed
+returns-2 c = let a = c .before .before .before .args in no-room 249 (a .len) (a .len + 6) (length (a .out .now)) _ (a .out .now) (omega arith) (omega arith)
 
 returns-3 : tie.Need-returns-3
-returns-3 c = let a = c .before .before .args in seal-nothing (a .len) (a .out .now) (too-long (a .len) (a .out .now) (omega arith))
+unfolding sealed
+returns-3 c = let a = c .before .before .args in too-long 249 (a .len) (a .len + 6) (length (a .out .now)) _ (a .out .now) (omega arith)
 
 pub seal-spec : {M : Type 1} → statement M
 seal-spec =

@@ -1,6 +1,6 @@
 -- `warnings_pace::status_of` meets its contract: each byte is that of its place.
 -- Assumes nothing.
-use Rattle.characters_pace.specs.Characters.{firsts}
+use Rattle.laws.specs.Firsts.{firsts}
 use Rattle.warnings_pace.specs.Warnings.{statusOf}
 use borrow.Author.Needs.{needs}
 use Rattle.warnings_pace.proofs.status_of.Statement.{statement}
