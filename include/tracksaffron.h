@@ -174,7 +174,7 @@ uint64_t tracksaffron_pace_slow_discharge(uint8_t address, uint16_t alarm_a, uin
 #define TRACKSAFFRON_OLD_RECORD 1
 uint64_t tracksaffron_old_read(const uint8_t *s, size_t len, int32_t *row, size_t numbers);
 
-/* Places of a record, 32 in all. A current that has no sensor is known 0 and 0 mA. */
+/* Places of a record, 32 in all. A current that is missing is known 0 and 0 mA. */
 #define TRACKSAFFRON_OLD_TOTAL_MV 0
 #define TRACKSAFFRON_OLD_CURRENT_KNOWN 1
 #define TRACKSAFFRON_OLD_CURRENT_MA 2

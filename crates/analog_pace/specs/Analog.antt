@@ -16,7 +16,6 @@ use Rattle.counts_pace.specs.declared.Counts.{Counts}
 use Rattle.counts_pace.specs.declared.Counts.the-variants.{Are, Wrong}
 use Rattle.counts_pace.specs.Counts.{countsOf}
 use Rattle.analog_pace.specs.declared.Analog.{Analog}
-use Rattle.analog_pace.specs.declared.Found.{Found}
 use Rattle.analog_pace.specs.declared.Found.the-variants.{Refused}
 use Rattle.analog_pace.specs.declared.Found.the-variants as found
 use Rattle.analog_pace.specs.declared.Reading.{Reading}

@@ -1,6 +1,6 @@
--- BCD: two decimal digits in a byte, the tens in its high half (002, 6.9).
+-- BCD: two decimal digits in a byte, the tens in its high half (002, 6.9.3 and 6.11.2).
 -- Assumes nothing.
-use mathlib.Core.Bool.{Bool, _&&_}
+use mathlib.Core.Bool.{_&&_}
 use Prim.Native.Nat.{ℕ, _+_, _*_, _/_, _%_}
 use lib.Dec.{ltb}
 use Rattle.laws.specs.Choice.{pick}

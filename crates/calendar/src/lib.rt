@@ -1,4 +1,4 @@
-// BCD bytes, real Gregorian dates of 2000 to 2099 and times of day (002, 6.9; 01, Tongzhu, function 30).
+// BCD bytes, real Gregorian dates of 2000 to 2099 and times of day (002, 6.9.3 and 6.11.2; 01, Tongzhu, function 30).
 ghost use mathlib.Core.Path.{_≡_};
 ghost use Prim.Native.Nat.{_+_, _≤_};
 ghost use Rattle.calendar.specs.Decimal.{bcdOf, bcdByte};

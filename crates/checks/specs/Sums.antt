@@ -1,4 +1,5 @@
--- The sums that close to zero: all bytes with the check modulo 256 (002, 4), character codes with CHKSUM modulo 65,536 (004).
+-- Sums: all bytes with the check close to 0 modulo 256 (01, Tongzhu; 002, 4, whose frames decide), character codes with CHKSUM modulo 65,536
+-- (01, PACE); the 58-byte monitor has the low byte of the sum itself (01, The 58-byte monitor).
 -- Assumes nothing.
 use Prim.Native.Nat.{ℕ, _+_, _-_, _%_}
 use mathlib.Core.Bool.{Bool}

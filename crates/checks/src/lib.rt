@@ -1,4 +1,5 @@
-// Checks: CRC-16/XMODEM over bytes (000, Checksum), and the sums that close to zero (002, 4: modulo 256; 004: modulo 65,536).
+// Checks: CRC-16/XMODEM over bytes (000, Checksum), and the sums that close to zero (01, Tongzhu: modulo 256;
+// 01, PACE: modulo 65,536).
 use std::num::wrapping_add_u32;
 ghost use mathlib.Core.Path.{_≡_};
 ghost use Prim.Native.Nat.{_%_, _<_};

@@ -1,6 +1,6 @@
 -- The shape that the replies 42 and 44 share (01, PACE; 004, Get Analog Information, Get Status): the bytes d.
 -- Assumes nothing.
-use mathlib.Core.Bool.{Bool, true, false, _&&_}
+use mathlib.Core.Bool.{Bool, true, false}
 use mathlib.Core.List.{List}
 use Prim.Native.Nat.{ℕ, _+_, _*_}
 use lib.Dec.{leb, eqb}

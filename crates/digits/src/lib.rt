@@ -1,4 +1,4 @@
-// Hex digits 0-9 and A-F, to and from bytes, and the PACE LENGTH word (004, LENGTH).
+// Hex digits 0-9 and A-F, to and from bytes, and the PACE LENGTH word (01, PACE).
 ghost use mathlib.Core.Path.{_≡_};
 ghost use Prim.Native.Nat.{_%_};
 ghost use Rattle.digits.specs.Hexes.{digitOf, byteOf, charOf, charsOf};

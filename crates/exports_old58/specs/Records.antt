@@ -20,7 +20,7 @@ use Rattle.exports_rows.specs.Told.{Told, numbers, refused, joined}
 abbrev pub word : ℕ → ℤ
 word n = signedOf 31 n
 
--- whether there is such a sensor, and its current, 0 where there is none
+-- whether a current is there (1) or missing (0), and the current, 0 where it is missing
 abbrev pub known : Current → ℤ
 known (Milliamps z) = pos 1
 known Missing = pos 0

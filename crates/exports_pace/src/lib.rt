@@ -24,7 +24,7 @@ ghost use Rattle.records_pace.specs.Reply.{replyOf};
 ghost use Rattle.exports_rows.specs.Told.{codeOf, rowAfter, textAfter, roomCode, over};
 ghost use Rattle.requests_pace.specs.Request.{writtenOf, roomAfter};
 ghost use Rattle.exports_pace.specs.Requests.{overvoltage, discharge, writtenCode};
-ghost use Rattle.exports_pace.specs.Replies.{analogNumbers, analogAll, warningNumbers, warningAll, valuesTold, toldAs, toldOf};
+ghost use Rattle.exports_pace.specs.Replies.{analogNumbers, analogAll, warningNumbers, warningAll, valuesTold, toldOf};
 
 // How many numbers the analog information and the warnings have, with their lists.
 const ANALOG: usize = 32;

@@ -1,5 +1,5 @@
 -- A restore's job in 262 bytes: the 50 words of its picture and the 15 wanted values, four bytes each with the low one first, then a byte for the
--- phase (0 ready, 1 waiting, 2 stopped) and one for the register waited for, 0 in the other phases.
+-- phase (0 ready, 1 waiting, 2 stopped) and one for the register waited for, 0 in the other phases (docs/DECISIONS.md, C and Rust).
 -- Assumes nothing.
 use Prim.Native.Nat.{ℕ}
 use mathlib.Core.Bool.{Bool, _&&_}

@@ -1,6 +1,6 @@
 -- What an answer is to a language that shares no enum: a kind, and the values that go with it. One number says it: the kind above 2 ^ 32 and a
--- number below, which is how many values there are where they are lent out; a refusal is its own number, of kind 0.
--- Assumes nothing.
+-- number below, which is how many values there are where they are lent out; a refusal is its own number, of kind 0
+-- (docs/DECISIONS.md, C and Rust). Assumes nothing.
 use Prim.Native.Nat.{ℕ, _+_, _*_, _%_}
 use mathlib.Core.List.{List, [], _∷_, _++_}
 use lib.Dec.{ltb, leb}

@@ -3,7 +3,7 @@
 -- Assumes nothing.
 use mathlib.Core.Bool.{Bool, false, _&&_}
 use mathlib.Core.List.{List}
-use Prim.Native.Nat.{ℕ, _+_, _-_}
+use Prim.Native.Nat.{ℕ, _-_}
 use lib.Dec.{ltb, eqb}
 use lib.ListN.{length, getD, take, drop}
 use Rattle.laws.specs.Choice.{pick}
@@ -51,6 +51,7 @@ counted s = counts (countOf (wordAt (headOf s) 4)) (length s - 18)
 abbrev pub known : List ℕ → Bool
 known s = eqb (getD (headOf s) 0 0) 0x25 && eqb (getD (headOf s) 2 0) 0x46
 
+-- a whole frame: its address, its command or return code, where INFO begins, how many characters it has
 unfoldable pub frameOf : List ℕ → Frame
 frameOf s =
     pick (ltb (length s) 18) (Refused (refusedWith short))

@@ -24,6 +24,7 @@ covered s = take (declared s + 1) (drop 1 s)
 abbrev pub given : List ℕ → ℕ
 given s = numberOf HighFirst (getD s (declared s + 2) 0 ∷ getD s (declared s + 3) 0 ∷ [])
 
+-- a whole frame: its opcode, where its data begin, how many bytes they are
 unfoldable pub frameOf : List ℕ → Frame
 frameOf s =
     pick (ltb (length s) 6) (Refused (refusedWith short))

@@ -19,6 +19,7 @@ checked s = take (length s - 1) s
 abbrev pub check : List ℕ → ℕ
 check s = getD s (length s - 1) 0
 
+-- a whole frame: its function, where its payload begins, how many bytes that has
 unfoldable pub frameOf : List ℕ → Frame
 frameOf s =
     pick (ltb (length s) 6) (Refused (refusedWith short))

@@ -52,6 +52,7 @@ pub record Shaped (n : ℕ) (k : Counts) : Type 0 where
 abbrev pub tailOf : Counts → ℕ
 tailOf k = 9 + 2 * k .cells + k .flags + k .sensors + k .mosfets
 
+-- the numbers, in the order of 6.1.3
 unfoldable pub monitor3Of : List ℕ → Counts → Monitor3
 monitor3Of q k = record {
   status = statusAt q 0;
@@ -65,6 +66,7 @@ monitor3Of q k = record {
   switch = getD q (tailOf k + 6) 0;
 }
 
+-- the lists: cells after c, balanced state after them, temperatures after t and m
 unfoldable pub listsOf : List ℕ → Counts → Lists
 listsOf q k = record {
   cells = placesOf 32 0 (λ i. numberAt q (7 + 2 * i)) (k .cells);

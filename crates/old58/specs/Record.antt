@@ -37,7 +37,7 @@ voltsAt s n = 5 * twoAt s n
 unfoldable pub degreesAt : List ℕ → ℕ → ℤ
 degreesAt s n = pos (twoAt s n) -ℤ pos 276
 
--- a current of 125 mA a count: + is positive, - negative, X missing whatever the count
+-- a current of 125 mA a count: + is positive, - negative, X missing whatever the count; another sign is refused before (`ranged`)
 unfoldable pub currentOf : ℕ → ℕ → Current
 currentOf sign n =
     pick (eqb sign 0x2B) (Milliamps (pos (125 * n)))
@@ -93,6 +93,7 @@ energyOf s =
       «consumed_kwh» = threeAt s 45;
     }
 
+-- the three voltage settings stay counts, "since step and example disagree"
 unfoldable pub setupOf : List ℕ → Setup
 setupOf s =
     record {

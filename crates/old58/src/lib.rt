@@ -13,7 +13,7 @@ ghost use Rattle.checks.specs.Sums.{total};
 ghost use Rattle.old58.specs.Record.{byteAt, twoAt, threeAt, voltsAt, degreesAt, currentOf, currentAt, packOf, extremesOf, cellOf, energyOf, setupOf, recordOf};
 ghost use Rattle.old58.specs.Read.{signKnown, ranged, judgedOf, readingOf};
 
-// A current, or none where the monitor has no such sensor (sign X).
+// A current, or missing (sign X).
 pub enum Current {
     Milliamps(i32),
     Missing,

@@ -92,12 +92,15 @@ withText a n d =
 
 -- ---- the record by the command asked: the bytes d
 
+-- C1: 20 bytes
 unfoldable pub hardwareOf : List ℕ → Reply
 hardwareOf d = pick (eqb (length d) 20) (withText Hardware 20 d) (bare (Refused (refusedWith shape)))
 
+-- C2: 20 or 40
 unfoldable pub serialOf : List ℕ → Reply
 serialOf d = pick (eqb (length d) 20 || eqb (length d) 40) (withText (Serial (length d)) (length d) d) (bare (Refused (refusedWith shape)))
 
+-- "Replies to D0 and DA have empty INFO"
 unfoldable pub acceptedOf : List ℕ → Reply
 acceptedOf d = pick (eqb (length d) 0) (bare Accepted) (bare (Refused (refusedWith shape)))
 

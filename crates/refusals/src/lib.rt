@@ -13,16 +13,16 @@ pub const SHORT: u8 = 1;
 // The first mark is wrong.
 pub const FIRST_MARK: u8 = 2;
 
-// The last mark is wrong.
+// The last mark is wrong (Pathfinder, PACE).
 pub const LAST_MARK: u8 = 3;
 
-// The declared length and the input's length disagree, or a length digit is wrong.
+// The declared length and the input's length disagree, or the PACE length digit is wrong; over 58 bytes for the 58-byte monitor.
 pub const LENGTH: u8 = 4;
 
 // The checksum is wrong.
 pub const CHECKSUM: u8 = 5;
 
-// Address, version or CID1.
+// Address or version (Tongzhu, PACE), or CID1 (PACE).
 pub const ADDRESS: u8 = 6;
 
 // The reply to another request, or a request that is not listed.

@@ -17,6 +17,8 @@ use Rattle.rows_pace.specs.declared.Values.the-variants.{CellOvervoltage
 unfoldable pub settings : List Setting
 settings = Overvoltage ∷ Discharge ∷ []
 
+-- cell overvoltage, D1 and D0: three amounts, written 2500 to 4500 mV in tens, delay 10 to 50 in fives; slow discharge overcurrent, DB and DA:
+-- two amounts, read negated, written 1 to 150 A, delay 5 to 100 in fives (01, PACE)
 unfoldable pub rowOf : Setting → Row
 rowOf Overvoltage =
     record {

@@ -1,7 +1,7 @@
 -- A word narrowed to its row's type (01, Pathfinder): by its low bits, in two's complement for signed types. In reply 03 the largest value of a
 -- type, and the smallest of a signed type, mean "no data"; bitfields and bools are never missing. Assumes nothing.
 use Prim.Native.Nat.{ℕ, _-_, _%_, _^_}
-use mathlib.Core.Bool.{Bool, true, false, _&&_, _||_, not}
+use mathlib.Core.Bool.{Bool, _&&_, _||_, not}
 use lib.Dec.{eqb}
 use lib.IntN.{ℤ, pos, _*ℤ_}
 use Rattle.laws.specs.Choice.{pick}
@@ -23,11 +23,11 @@ numberRow missing v = pick missing Missing (Number v)
 abbrev pub tenRow : Bool → ℕ → Row
 tenRow missing n = pick missing Missing (TenMillivolts (record { 0 = signedOf 15 n }))
 
--- the largest value of k bits
+-- n is the largest value of k bits
 abbrev pub largest : ℕ → ℕ → Bool
 largest k n = eqb n (2 ^ k - 1)
 
--- the largest and the smallest value of a sign and k bits, as bits
+-- n is, as bits, the largest or the smallest value of a sign and k bits
 abbrev pub extreme : ℕ → ℕ → Bool
 extreme k n = eqb n (2 ^ k - 1) || eqb n (2 ^ k)
 
@@ -45,5 +45,6 @@ byBits t may n =
     (pick (eqb t bits) (Number (pos n))
     (pick (eqb t noRow) (Refused (refusedWith shape)) (Refused (refusedWith request)))))))))))
 
+-- row and word of a reply: "reply not 01 to 04: 7, then no such row: 8"
 unfoldable pub rowOf : ℕ → ℕ → ℤ → Row
 rowOf reply row w = byBits (typeAt reply row) (eqb reply 0x03) (bitsOf 32 w)

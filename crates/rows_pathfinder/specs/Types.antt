@@ -63,7 +63,7 @@ infos =
 abbrev pub listedAt : List ℕ → ℕ → ℕ
 listedAt rows row = pick (ltb row (length rows)) (getD rows row 0) noRow
 
--- replies of plain words, so many
+-- replies of I32 words, so many: 01 (000) and 04 (docs/DECISIONS.md)
 abbrev pub wordsAt : ℕ → ℕ → ℕ
 wordsAt count row = pick (ltb row count) i32 noRow
 

@@ -7,12 +7,11 @@ use refusals::Refusal;
 use refusals::refuse;
 ghost use mathlib.Core.Path.{_≡_};
 ghost use mathlib.Core.Bool.{_&&_, _||_};
-ghost use Prim.Native.Nat.{_-_, _%_, _<_, _≤_};
+ghost use Prim.Native.Nat.{_-_, _%_, _<_};
 ghost use lib.Dec.{eqb};
 ghost use lib.IntN.{pos};
-ghost use Rattle.laws.specs.Choice.{pick};
 ghost use Rattle.refusals.specs.Refused.{refusedWith};
-ghost use Rattle.numbers.specs.Signed.{signedOf, bitsOf};
+ghost use Rattle.numbers.specs.Signed.{signedOf};
 ghost use Rattle.rows_pathfinder.specs.Types.{wordsAt, listedAt, settings, infos, typeAt};
 ghost use Rattle.rows_pathfinder.specs.Narrowing.{millivoltsOf, numberRow, tenRow, byBits, rowOf};
 

@@ -39,8 +39,9 @@ scan (suc k) i s = pick (frameAt s i) (At i (sizeAt s i)) (scan k (suc i) s)
 unfoldable pub searchOf : List ℕ → Found
 searchOf s = scan (length s) 0 s
 
--- ---- what the code looks at, at a place: how many bytes the checksum covers, by marks and length; 0 where they are wrong
+-- ---- what the code looks at, shown to be the same in proofs/Frames.antt
 
+-- at a place: how many bytes the checksum covers, by marks and length; 0 where they are wrong
 unfoldable pub spanOf : List ℕ → ℕ → ℕ
 spanOf s i =
     pick (leb (i + 6) (length s))

@@ -6,10 +6,8 @@ use counts_pace::counts_of;
 use refusals::Refusal;
 use refusals::refuse;
 ghost use mathlib.Core.Path.{_≡_};
-ghost use mathlib.Core.List.{_++_};
 ghost use Prim.Native.Nat.{_≤_};
-ghost use lib.ListN.{drop, replicate};
-ghost use Rattle.characters_pace.specs.Characters.{bytesIn, bytesAt};
+ghost use Rattle.characters_pace.specs.Characters.{bytesIn};
 ghost use Rattle.warnings_pace.specs.Warnings.{statusOf, readingOf, nothing};
 
 // The counts of cells and temperatures, and the twelve bytes behind their warnings.

@@ -8,7 +8,7 @@ use lib.IntN.{ℤ, pos, negsuc}
 use Rattle.checks.specs.Crc.{crcOf}
 use Rattle.checks.specs.Sums.{total, closing}
 use Rattle.digits.specs.declared.Length.{Length}
-use Rattle.digits.specs.declared.Length.the-variants as length
+use Rattle.digits.specs.declared.Length.the-variants as lengths
 use Rattle.digits.specs.Lengths.{wordOf}
 use Rattle.calendar.specs.Dates.{realDate}
 use Rattle.requests_tongzhu.specs.declared.Time.{Time}
@@ -39,8 +39,8 @@ alike (x ∷ s) (y ∷ t) = eqb x y && alike s t
 
 -- a LENGTH word, and this one
 abbrev pub isWord : Length → ℕ → Bool
-isWord (length.Is w) n = eqb w n
-isWord length.Wrong n = false
+isWord (lengths.Is w) n = eqb w n
+isWord lengths.Wrong n = false
 
 -- a frame, and of these bytes
 abbrev pub isFrame : Wire → List ℕ → Bool

@@ -3,7 +3,7 @@
 use crate::calls::tracksaffron_old_read;
 use crate::{told, Result};
 
-/// Places of a record. A current that has no sensor is known 0 and 0 mA.
+/// Places of a record. A current that is missing is known 0 and 0 mA.
 pub mod record {
     pub const TOTAL_MV: usize = 0;
     pub const CURRENT_KNOWN: usize = 1;
