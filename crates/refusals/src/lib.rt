@@ -1,10 +1,19 @@
-// Refusals: the numbers of document 01, "Refusal numbers", by name, and the one place where a refusal is made.
+// Refusals: the numbers of document 01, "Refusal numbers", by name, and the one place where a refusal is made. Also what every writer
+// of a frame answers.
 ghost use mathlib.Core.Path.{_≡_};
 ghost use Rattle.refusals.specs.Refused.{refusedWith};
 
 // Why a call gives no answer. Change request 6 adds a place beside the number, here and in `refuse`.
 pub struct Refusal {
     pub number: u8,
+}
+
+// What became of a frame that was to be written.
+pub enum Written {
+    // A frame of so many bytes stands at the front of the room.
+    Frame(usize),
+    // Nothing was written.
+    Refused(Refusal),
 }
 
 // Input shorter than the smallest frame.
