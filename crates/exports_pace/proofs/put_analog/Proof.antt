@@ -1,10 +1,7 @@
 -- `exports_pace::put_analog` meets its contract: 11 where the row is too short, else its parts, placed one behind the other.
 -- Assumes nothing.
-use mathlib.Core.Path.{_≡_, refl, _∙_}
-use mathlib.Core.List.{map}
+use mathlib.Core.Path.{refl}
 use native.Mathlib.Omega.{arith}
-use lib.IntN.{pos}
-use lib.ListN.{length, length-map}
 use Rattle.exports_rows.proofs.Placing.{total}
 use Rattle.exports_pace.specs.Replies.{analogNumbers}
 use Rattle.exports_pace.proofs.Rows.{record-untold, record-told}
@@ -17,11 +14,7 @@ cast-result c = search needs
 
 returns : tie.Need-returns
 unfolding total
-returns c =
-    let a = c .before .args in
-    let cells : length (a .t2) ≡ 16 = search needs in
-    let temperatures : length (a .t3) ≡ 8 = search needs in
-    record-untold 1 8 (analogNumbers (a .a)) (map pos (a .t2)) (a .t3) (a .row .now) refl (length-map (a .t2) pos ∙ cells) temperatures (search needs)
+returns c = let a = c .before .args in record-untold 1 8 (analogNumbers (a .a)) (a .t2) (a .t3) (a .row .now) refl (search needs) (search needs) (search needs)
 
 analog-numbers-requires : tie.Need-analog-numbers-requires
 analog-numbers-requires c κs = search needs
@@ -54,9 +47,7 @@ returns-2 : tie.Need-returns-2
 unfolding total
 returns-2 c =
     let a = c .before .before .before .before .before .before .before .before .before .before .before .before .before .before .before .args in
-    let cells : length (a .t2) ≡ 16 = search needs in
-    let temperatures : length (a .t3) ≡ 8 = search needs in
-    record-told 1 8 (analogNumbers (a .a)) (map pos (a .t2)) (a .t3) (a .row .now) refl (length-map (a .t2) pos ∙ cells) temperatures
+    record-told 1 8 (analogNumbers (a .a)) (a .t2) (a .t3) (a .row .now) refl (search needs) (search needs)
     (omega (arith, c .before .before .before .before .before .before .before .before .before .before .before .before .before .before .if1 .left))
     (c .coded .ensures)
     (c .before .before .before .before .before .before .before .before .before .before .before .before .before .analog-numbers .ensures)

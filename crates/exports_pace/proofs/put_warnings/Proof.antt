@@ -1,10 +1,10 @@
 -- `exports_pace::put_warnings` meets its contract: 11 where the row is too short, else its parts, placed one behind the other.
 -- Assumes nothing.
-use mathlib.Core.Path.{_≡_, refl, _∙_}
+use mathlib.Core.Path.{refl, _∙_}
 use mathlib.Core.List.{map}
 use native.Mathlib.Omega.{arith}
 use lib.IntN.{pos}
-use lib.ListN.{length, length-map}
+use lib.ListN.{length-map}
 use Rattle.exports_rows.proofs.Placing.{total}
 use Rattle.exports_pace.specs.Replies.{warningNumbers}
 use Rattle.exports_pace.proofs.Rows.{record-untold, record-told}
@@ -17,11 +17,7 @@ cast-result c = search needs
 
 returns : tie.Need-returns
 unfolding total
-returns c =
-    let a = c .before .args in
-    let cells : length (a .t2) ≡ 16 = search needs in
-    let temperatures : length (a .t3) ≡ 8 = search needs in
-    record-untold 2 14 (warningNumbers (a .w)) (map pos (a .t2)) (map pos (a .t3)) (a .row .now) refl (length-map (a .t2) pos ∙ cells) (length-map (a .t3) pos ∙ temperatures) (search needs)
+returns c = let a = c .before .args in record-untold 2 14 (warningNumbers (a .w)) (a .t2) (map pos (a .t3)) (a .row .now) refl (search needs) (length-map (a .t3) pos ∙ search needs) (search needs)
 
 warning-numbers-requires : tie.Need-warning-numbers-requires
 warning-numbers-requires c κs = search needs
@@ -54,9 +50,7 @@ returns-2 : tie.Need-returns-2
 unfolding total
 returns-2 c =
     let a = c .before .before .before .before .before .before .before .before .before .before .before .before .before .before .before .args in
-    let cells : length (a .t2) ≡ 16 = search needs in
-    let temperatures : length (a .t3) ≡ 8 = search needs in
-    record-told 2 14 (warningNumbers (a .w)) (map pos (a .t2)) (map pos (a .t3)) (a .row .now) refl (length-map (a .t2) pos ∙ cells) (length-map (a .t3) pos ∙ temperatures)
+    record-told 2 14 (warningNumbers (a .w)) (a .t2) (map pos (a .t3)) (a .row .now) refl (search needs) (length-map (a .t3) pos ∙ search needs)
     (omega (arith, c .before .before .before .before .before .before .before .before .before .before .before .before .before .before .if1 .left))
     (c .coded .ensures)
     (c .before .before .before .before .before .before .before .before .before .before .before .before .before .warning-numbers .ensures)
