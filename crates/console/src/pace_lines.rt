@@ -3,7 +3,6 @@ use crate::text;
 use crate::words;
 use crate::words::Call;
 use analog_pace::Analog;
-use frames_pace::Written;
 use records_pace::Answer;
 use records_pace::Reply;
 use requests_pace::Parsed;
@@ -275,8 +274,5 @@ fn discharge_of(v: [u64; 8]) -> Values {
 fn write(q: Request, room: u64, bytes: &mut [u8], out: &mut [u8], at: usize) -> usize {
     let places = text::places_of(room, bytes.len());
     let answer = requests_pace::write_request(q, &mut bytes[0..places]);
-    match answer {
-        Written::Frame(n) => text::put_bytes(out, at, b"ok frame ", bytes, n),
-        Written::Refused(r) => text::put_refused(out, at, r),
-    }
+    text::put_written(out, at, answer, bytes)
 }

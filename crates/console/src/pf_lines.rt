@@ -5,7 +5,6 @@ use crate::words::Call;
 use records_pathfinder::Reply;
 use requests_pathfinder::Parsed;
 use requests_pathfinder::Request;
-use requests_pathfinder::Written;
 use rows_pathfinder::Row;
 use rows_pathfinder::TenMillivolts;
 use search_pathfinder::Found;
@@ -153,10 +152,7 @@ fn set_of(v: [u64; 8]) -> Request {
 fn write(q: Request, room: u64, bytes: &mut [u8], out: &mut [u8], at: usize) -> usize {
     let places = text::places_of(room, bytes.len());
     let answer = requests_pathfinder::write_request(q, &mut bytes[0..places]);
-    match answer {
-        Written::Frame(n) => text::put_bytes(out, at, b"ok frame ", bytes, n),
-        Written::Refused(r) => text::put_refused(out, at, r),
-    }
+    text::put_written(out, at, answer, bytes)
 }
 
 fn find(v: [u64; 8], bytes: &[u8], out: &mut [u8], at: usize) -> usize {

@@ -4,6 +4,7 @@ ghost use Prim.Native.Nat.{_≤_};
 use crate::words;
 use crate::words::Fault;
 use refusals::Refusal;
+use refusals::Written;
 
 // A value of a form is a number of 64 bits in two's complement. This one, which no field of a record has, is written as `missing`.
 pub const MISSING: u64 = 0x8000000000000000;
@@ -191,6 +192,14 @@ fn put_one(out: &mut [u8], at: usize, v: u64) -> usize {
 
 pub fn put_refused(out: &mut [u8], at: usize, r: Refusal) -> usize {
     put_with(out, at, b"refused #\n", from_u8(r.number))
+}
+
+// What a writer of requests answers: its frame stands at the front of the bytes.
+pub fn put_written(out: &mut [u8], at: usize, w: Written, bytes: &[u8]) -> usize {
+    match w {
+        Written::Frame(n) => put_bytes(out, at, b"ok frame ", bytes, n),
+        Written::Refused(r) => put_refused(out, at, r),
+    }
 }
 
 // What a line that is no call answers.

@@ -11,7 +11,6 @@ use records_tongzhu::Reply;
 use requests_tongzhu::Parsed;
 use requests_tongzhu::Request;
 use requests_tongzhu::Time;
-use requests_tongzhu::Written;
 
 pub fn answer(line: &[u8], bytes: &mut [u8], out: &mut [u8], at: usize) -> usize {
     let mut v = [0u64; 8];
@@ -209,8 +208,5 @@ fn time_of(v: [u64; 8]) -> Time {
 fn write(q: Request, room: u64, bytes: &mut [u8], out: &mut [u8], at: usize) -> usize {
     let places = text::places_of(room, bytes.len());
     let answer = requests_tongzhu::write_request(q, &mut bytes[0..places]);
-    match answer {
-        Written::Frame(n) => text::put_bytes(out, at, b"ok frame ", bytes, n),
-        Written::Refused(r) => text::put_refused(out, at, r),
-    }
+    text::put_written(out, at, answer, bytes)
 }

@@ -6,8 +6,6 @@ use mathlib.Core.List.{[], _∷_}
 use lib.IntN.{ℤ, pos}
 use Rattle.records_pathfinder.specs.declared.Reply.{Reply}
 use Rattle.records_pathfinder.specs.declared.Reply.the-variants.{Words, Name, Written, Failure, Refused}
-use Rattle.requests_pathfinder.specs.declared.Written.{Written as Sent}
-use Rattle.requests_pathfinder.specs.declared.Written.the-variants.{Frame, Refused as NotSent}
 use Rattle.search_pathfinder.specs.declared.Found.{Found}
 use Rattle.search_pathfinder.specs.declared.Found.the-variants.{At, Nothing}
 use Rattle.rows_pathfinder.specs.declared.TenMillivolts.{TenMillivolts}
@@ -22,11 +20,6 @@ replyCode (Name n) = codedAs 2 n
 replyCode Written = codedAs 3 0
 replyCode (Failure code) = codedAs 4 code
 replyCode (Refused r) = r .number
-
--- 1 a frame of so many bytes
-abbrev pub writtenCode : Sent → ℕ
-writtenCode (Frame n) = codedAs 1 n
-writtenCode (NotSent r) = r .number
 
 -- the place, or the input's length
 abbrev pub placeCode : Found → ℕ → ℕ

@@ -1,10 +1,10 @@
 // Pathfinder for other languages (`rt staticlib exports`): numbers and slices only, each call safe with any input.
 // An answer that is an enum goes out as one number: `specs/Codes.antt` says which.
 use exports_rows::coded;
+use exports_rows::written_number;
 use records_pathfinder::Reply;
 use records_pathfinder::read_reply;
 use requests_pathfinder::Request;
-use requests_pathfinder::Written;
 use requests_pathfinder::write_request;
 use rows_pathfinder::Row;
 use rows_pathfinder::TenMillivolts;
@@ -19,7 +19,8 @@ ghost use Rattle.requests_pathfinder.specs.Requests.{sentAs, roomAfter};
 ghost use Rattle.search_pathfinder.specs.Places.{searchOf};
 ghost use Rattle.rows_pathfinder.specs.Narrowing.{rowOf};
 ghost use Rattle.exports_rows.specs.Told.{codeOf, rowAfter as valueAfter, roomCode, over};
-ghost use Rattle.exports.specs.Codes.{replyCode, writtenCode, placeCode, tensOf, truthOf, toldRow};
+ghost use Rattle.exports_rows.specs.Writing.{writtenCode};
+ghost use Rattle.exports.specs.Codes.{replyCode, placeCode, tensOf, truthOf, toldRow};
 
 // CRC-16/XMODEM of the bytes.
 #[no_mangle]
@@ -87,15 +88,6 @@ fn reply_number(r: Reply) -> u64
         Reply::Written => coded(3, 0),
         Reply::Failure(code) => coded(4, code as usize),
         Reply::Refused(r) => r.number as u64,
-    }
-}
-
-fn written_number(w: Written) -> u64
-    ensures { λ n. ⌜ n ≡ writtenCode w ⌝ }
-{
-    match w {
-        Written::Frame(n) => coded(1, n),
-        Written::Refused(r) => r.number as u64,
     }
 }
 

@@ -13,6 +13,12 @@ use Rattle.records_pace.specs.declared.Answer.the-variants as is
 use Rattle.records_pace.specs.declared.Reply.{Reply}
 use Rattle.exports_rows.specs.Told.{Told, numbers, letters, plain, refused, joined}
 
+-- ---- a record with its lists
+
+-- its numbers, behind them 16 places of the cells, behind them 8 of the temperatures
+abbrev pub parts : List ℤ → List ℤ → List ℤ → List (List ℤ)
+parts values cells temperatures = values ∷ cells ∷ temperatures ∷ []
+
 -- ---- analog information
 
 -- places 0 to 7
@@ -22,14 +28,8 @@ analogNumbers a =
     ∷ pos (a .«full_10mah») ∷ pos (a .cycles) ∷ pos (a .«design_10mah») ∷ []
 
 -- and behind them the cells from place 8 on, the temperatures from 24, to 31
-abbrev pub analogParts : Analog → List ℕ → List ℤ → List (List ℤ)
-analogParts a cells temperatures = analogNumbers a ∷ map pos cells ∷ temperatures ∷ []
-
-abbrev pub analogSizes : List ℕ
-analogSizes = 8 ∷ 16 ∷ 8 ∷ []
-
 abbrev pub analogAll : Analog → List ℕ → List ℤ → List ℤ
-analogAll a cells temperatures = joined (analogParts a cells temperatures)
+analogAll a cells temperatures = joined (parts (analogNumbers a) (map pos cells) temperatures)
 
 -- ---- warnings
 
@@ -41,14 +41,8 @@ warningNumbers w =
     ∷ pos (w .«balance_high») ∷ pos (w .«balance_low») ∷ pos (w .warning1) ∷ pos (w .warning2) ∷ []
 
 -- and behind them those of the cells from place 14 on, of the temperatures from 30, to 37
-abbrev pub warningParts : Warnings → List ℕ → List ℕ → List (List ℤ)
-warningParts w cells temperatures = warningNumbers w ∷ map pos cells ∷ map pos temperatures ∷ []
-
-abbrev pub warningSizes : List ℕ
-warningSizes = 14 ∷ 16 ∷ 8 ∷ []
-
 abbrev pub warningAll : Warnings → List ℕ → List ℕ → List ℤ
-warningAll w cells temperatures = joined (warningParts w cells temperatures)
+warningAll w cells temperatures = joined (parts (warningNumbers w) (map pos cells) (map pos temperatures))
 
 -- ---- the answers
 

@@ -10,7 +10,7 @@ use exports_rows::put_text;
 use exports_rows::put_u8;
 use exports_rows::put_u16;
 use exports_rows::signed_half;
-use frames_pace::Written;
+use exports_rows::written_number;
 use records_pace::Answer;
 use records_pace::Reply;
 use records_pace::read_reply;
@@ -22,8 +22,9 @@ ghost use mathlib.Core.Path.{_≡_};
 ghost use lib.ListN.{length, take};
 ghost use Rattle.records_pace.specs.Reply.{replyOf};
 ghost use Rattle.exports_rows.specs.Told.{codeOf, rowAfter, textAfter, roomCode, over};
+ghost use Rattle.exports_rows.specs.Writing.{writtenCode};
 ghost use Rattle.requests_pace.specs.Request.{writtenOf, roomAfter};
-ghost use Rattle.exports_pace.specs.Requests.{overvoltage, discharge, writtenCode};
+ghost use Rattle.exports_pace.specs.Requests.{overvoltage, discharge};
 ghost use Rattle.exports_pace.specs.Replies.{analogNumbers, analogAll, warningNumbers, warningAll, valuesTold, toldOf};
 
 // How many numbers the analog information and the warnings have, with their lists.
@@ -96,15 +97,6 @@ pub extern "C" fn tracksaffron_pace_slow_discharge(
         delay_100ms: delay,
     };
     written_number(write_request(Request::Set { address, values }, out))
-}
-
-fn written_number(w: Written) -> u64
-    ensures { λ n. ⌜ n ≡ writtenCode w ⌝ }
-{
-    match w {
-        Written::Frame(n) => coded(1, n),
-        Written::Refused(r) => r.number as u64,
-    }
 }
 
 fn tell(r: Reply, row: &mut [i32], text: &mut [u8]) -> u64

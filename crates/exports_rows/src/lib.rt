@@ -1,16 +1,28 @@
 // Answers for languages that share no enum and no struct: one number for the answer, a lent row of numbers for its values, lent bytes for
 // its text. `specs/Told.antt` says which number and which values; the crates `exports` and `exports_*` say it for each device.
+use refusals::Written;
 ghost use mathlib.Core.Path.{_≡_};
 ghost use mathlib.Core.List.{map};
 ghost use lib.IntN.{pos};
 ghost use lib.ListN.{length};
 ghost use Rattle.exports_rows.specs.Told.{codedAs, roomCode, over, placed};
+ghost use Rattle.exports_rows.specs.Writing.{writtenCode};
 
 // A kind of answer and its number in one: the number below 2 to the 32, the kind above it.
 pub fn coded(kind: u8, n: usize) -> u64
     ensures { λ r. ⌜ r ≡ codedAs kind n ⌝ }
 {
     (kind as u64) * 4294967296 + (n as u64) % 4294967296
+}
+
+// What a writer of requests answered, as one number.
+pub fn written_number(w: Written) -> u64
+    ensures { λ r. ⌜ r ≡ writtenCode w ⌝ }
+{
+    match w {
+        Written::Frame(n) => coded(1, n),
+        Written::Refused(r) => r.number as u64,
+    }
 }
 
 // An answer of this kind whose values are these numbers: they go to the front of the row.

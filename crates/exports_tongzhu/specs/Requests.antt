@@ -1,9 +1,9 @@
 -- Tongzhu requests for a language that shares no struct: a time by its six numbers, and what became of a request as one number.
 -- Assumes nothing.
 use Prim.Native.Nat.{ℕ}
+use Rattle.refusals.specs.declared.Written.{Written}
+use Rattle.refusals.specs.declared.Written.the-variants.{Frame, Refused}
 use Rattle.requests_tongzhu.specs.declared.Time.{Time}
-use Rattle.requests_tongzhu.specs.declared.Written.{Written}
-use Rattle.requests_tongzhu.specs.declared.Written.the-variants.{Frame, Refused}
 use Rattle.exports_rows.specs.Told.{codedAs}
 
 abbrev pub timeOf : ℕ → ℕ → ℕ → ℕ → ℕ → ℕ → Time

@@ -9,9 +9,9 @@ use Rattle.checks.specs.Sums.{total, closing}
 use Rattle.digits.specs.Lengths.{lengthWord}
 use Rattle.numbers.specs.declared.Order.the-variants.{HighFirst}
 use Rattle.numbers.specs.Bytes.{bytesOf}
+use Rattle.refusals.specs.declared.Written.{Written}
+use Rattle.refusals.specs.declared.Written.the-variants.{Frame, Refused}
 use Rattle.refusals.specs.Refused.{refusedWith, shape, room}
-use Rattle.frames_pace.specs.declared.Written.{Written}
-use Rattle.frames_pace.specs.declared.Written.the-variants.{Frame, Refused}
 use Rattle.characters_pace.specs.Characters.{hexed}
 
 -- version, address, CID1, command and the LENGTH of n characters

@@ -12,6 +12,7 @@ use digits::length_word;
 use numbers::Order;
 use numbers::bytes16;
 use refusals::Refusal;
+use refusals::Written;
 use refusals::refuse;
 ghost use mathlib.Core.Path.{_≡_};
 ghost use mathlib.Core.Bool.{true};
@@ -93,13 +94,7 @@ fn counted_frame(s: &[u8]) -> Frame
     }
 }
 
-pub enum Written {
-    // A frame of so many characters stands at the front of the room.
-    Frame(usize),
-    Refused(Refusal),
-}
-
-// Writes the frame with this address, command and payload to the front of the room.
+// Writes the frame with this address, command and payload to the front of the room; its bytes are characters.
 pub fn write_frame(address: u8, command: u8, info: &[u8], out: &mut [u8]) -> Written
     ensures answer { λ r. ⌜ r ≡ writtenOf (now (info .entry)) (now (out .entry)) ⌝ }
     ensures filled { λ r. ⌜ now (out .exit) ≡ roomAfter r address command (now (info .entry)) (now (out .entry)) ⌝ }

@@ -14,11 +14,11 @@ use Rattle.laws.proofs.Firsts.{listed}
 use Rattle.laws.proofs.Ladders.{into, both}
 use Rattle.numbers.proofs.Orders.{Bytes}
 use Rattle.refusals.specs.declared.Refusal.{Refusal}
+use Rattle.refusals.specs.declared.Written.the-variants.{Frame, Refused}
 use Rattle.characters_pace.specs.Characters.{bytesIn}
 use Rattle.characters_pace.proofs.Carried.{bytes-length}
 use Rattle.frames_pace.specs.declared.Frame.{Frame as AFrame}
 use Rattle.frames_pace.specs.declared.Frame.the-variants as frame
-use Rattle.frames_pace.specs.declared.Written.the-variants.{Frame, Refused}
 use Rattle.frames_pace.specs.Frame as frames
 use Rattle.frames_pace.specs.Written as written
 use Rattle.frames_pace.proofs.Parts.{info-length}

@@ -8,9 +8,9 @@ use native.Mathlib.Omega.{arith}
 use lib.ListN.{length, take, drop, replicate, length-append}
 use Rattle.laws.proofs.Filling.{front-taken}
 use Rattle.refusals.specs.declared.Refusal.{Refusal}
+use Rattle.refusals.specs.declared.Written.{Written}
+use Rattle.refusals.specs.declared.Written.the-variants.{Frame, Refused}
 use Rattle.refusals.specs.Refused.{refusedWith, range}
-use Rattle.frames_pace.specs.declared.Written.{Written}
-use Rattle.frames_pace.specs.declared.Written.the-variants.{Frame, Refused}
 use Rattle.frames_pace.specs.Written as frames
 use Rattle.rows_pace.specs.declared.Info.{Info}
 use Rattle.rows_pace.specs.declared.Values.{Values}

@@ -4,9 +4,9 @@ use mathlib.Core.List.{List, [], _∷_, _++_}
 use Prim.Native.Nat.{ℕ}
 use lib.ListN.{drop}
 use Rattle.laws.specs.Choice.{pick}
+use Rattle.refusals.specs.declared.Written.{Written}
+use Rattle.refusals.specs.declared.Written.the-variants.{Frame, Refused}
 use Rattle.refusals.specs.Refused.{refusedWith, request, shape, range}
-use Rattle.frames_pace.specs.declared.Written.{Written}
-use Rattle.frames_pace.specs.declared.Written.the-variants.{Frame, Refused}
 use Rattle.frames_pace.specs.Written as frames
 use Rattle.rows_pace.specs.declared.Command.{Command}
 use Rattle.rows_pace.specs.declared.Command.the-variants as command

@@ -1,10 +1,10 @@
 // PACE requests, written and read (004; 01, PACE): 42 and 44 with the address as their one INFO byte; C1, C2, D1, DB without INFO; D0 and DA with values.
 use characters_pace::byte_of;
 use frames_pace::Frame;
-use frames_pace::Written;
 use frames_pace::read_frame;
 use frames_pace::write_frame;
 use refusals::Refusal;
+use refusals::Written;
 use refusals::refuse;
 use rows_pace::Command;
 use rows_pace::Setting;

@@ -10,6 +10,7 @@ use lib.Dec.{ltb}
 use lib.IntN.{ℤ}
 use lib.ListN.{length, getD}
 use Rattle.refusals.specs.declared.Refusal.{Refusal}
+use Rattle.refusals.specs.declared.Written.the-variants.{Refused as NotWritten}
 use Rattle.refusals.specs.Refused.{refusedWith, request, shape, range, register}
 use Rattle.registers_pathfinder.specs.Registers.{count, inRange}
 use Rattle.records_pathfinder.specs.Words.{wordOf}
@@ -18,7 +19,6 @@ use Rattle.frames_pathfinder.specs.declared.Frame.the-variants.{Whole, Refused 
 use Rattle.frames_pathfinder.specs.Reading.{frameOf}
 use Rattle.requests_pathfinder.specs.declared.Request.{Request}
 use Rattle.requests_pathfinder.specs.declared.Request.the-variants.{Ask, Write}
-use Rattle.requests_pathfinder.specs.declared.Written.the-variants.{Refused as NotWritten}
 use Rattle.requests_pathfinder.specs.declared.Parsed.the-variants.{Is, Refused}
 use Rattle.requests_pathfinder.specs.Requests.{faultOf, writtenAs, sentAs}
 use Rattle.requests_pathfinder.specs.Reading.{parsedSet, parsedOf, ofFrame, requestOf}

@@ -8,12 +8,12 @@ use borrow.Author.Tests.{lt-ltb, le-ltb}
 use borrow.Rule.Slice.PartMut.{putMid}
 use lib.IntN.{ℤ}
 use lib.ListN.{length, drop}
+use Rattle.refusals.specs.declared.Written.the-variants.{Frame, Refused}
 use Rattle.refusals.specs.Refused.{refusedWith, room}
 use Rattle.frames_pathfinder.specs.Writing.{headOf, begun, sealed}
 use Rattle.frames_pathfinder.proofs.Writers.{begun-front, frame-made}
 use Rattle.requests_pathfinder.specs.declared.Request.{Request}
 use Rattle.requests_pathfinder.specs.declared.Request.the-variants.{Ask, Write}
-use Rattle.requests_pathfinder.specs.declared.Written.the-variants.{Frame, Refused}
 use Rattle.requests_pathfinder.specs.Requests.{loadOf, setLoad, frameFor, writtenAs}
 
 pub no-room : (q : Request) (places : ℕ) → places < length (loadOf q) + 6 → Refused (refusedWith room) ≡ writtenAs q places

@@ -7,6 +7,8 @@ use lib.IntN.{ℤ}
 use lib.ListN.{length, drop}
 use lib.Dec.{ltb, leb, eqb}
 use Rattle.laws.specs.Choice.{pick}
+use Rattle.refusals.specs.declared.Written.{Written}
+use Rattle.refusals.specs.declared.Written.the-variants.{Frame, Refused}
 use Rattle.refusals.specs.Refused.{refusedWith, request, shape, range, register, room}
 use Rattle.numbers.specs.declared.Order.the-variants.{LowFirst}
 use Rattle.numbers.specs.Bytes.{bytesOf}
@@ -15,8 +17,6 @@ use Rattle.frames_pathfinder.specs.Writing.{frameBytes}
 use Rattle.registers_pathfinder.specs.Registers.{count, inRange}
 use Rattle.requests_pathfinder.specs.declared.Request.{Request}
 use Rattle.requests_pathfinder.specs.declared.Request.the-variants.{Ask, Write}
-use Rattle.requests_pathfinder.specs.declared.Written.{Written}
-use Rattle.requests_pathfinder.specs.declared.Written.the-variants.{Frame, Refused}
 
 -- the requests that have no data: 01 to 05
 abbrev pub asks : ℕ → Bool

@@ -9,6 +9,7 @@ use numbers::bits32;
 use numbers::bytes32;
 use records_pathfinder::word;
 use refusals::Refusal;
+use refusals::Written;
 use refusals::refuse;
 use registers_pathfinder::in_range;
 use registers_pathfinder::is_register;
@@ -23,12 +24,6 @@ pub enum Request {
     Ask(u8),
     // Request 0E.
     Write { register: u8, value: i32 },
-}
-
-pub enum Written {
-    // A frame of so many bytes stands at the front of the room.
-    Frame(usize),
-    Refused(Refusal),
 }
 
 pub enum Parsed {

@@ -14,6 +14,7 @@ use lib.Seq.{take-append-seam, getD-take, getD-drop}
 use Rattle.laws.specs.Choice.{pick}
 use Rattle.laws.proofs.Ladders.{past, into}
 use Rattle.refusals.specs.declared.Refusal.{Refusal}
+use Rattle.refusals.specs.declared.Written.the-variants.{Frame, Refused as NotWritten}
 use Rattle.refusals.specs.Refused.{refusedWith, range, room}
 use Rattle.frames_tongzhu.specs.declared.Kind.{Kind}
 use Rattle.frames_tongzhu.specs.declared.Kind.the-variants.{Reads, Sets, Unlisted}
@@ -26,7 +27,6 @@ use Rattle.frames_tongzhu.proofs.Listed.{only-setting}
 use Rattle.frames_tongzhu.proofs.ReadBack.{frame-reads-back, payload-back, frame-writes-back}
 use Rattle.requests_tongzhu.specs.declared.Request.{Request}
 use Rattle.requests_tongzhu.specs.declared.Request.the-variants.{Ask, SetTime}
-use Rattle.requests_tongzhu.specs.declared.Written.the-variants.{Frame, Refused as NotWritten}
 use Rattle.requests_tongzhu.specs.declared.Parsed.the-variants.{Is, Refused}
 use Rattle.requests_tongzhu.specs.Times.{real, timeIn, timeBytes}
 use Rattle.requests_tongzhu.specs.Requests.{Wire, bytes, none, askWire, wireOf, writtenOf, roomAfter, timeRequest, byKind, payloadIn, ofFrame, parsedOf}

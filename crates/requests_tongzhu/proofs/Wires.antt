@@ -10,6 +10,8 @@ use borrow.Rule.Slice.PartMut.{putMid}
 use lib.ListN.{length, drop, drop-of-length-le}
 use lib.Seq.{sets, sets-eq}
 use Rattle.refusals.specs.declared.Refusal.{Refusal}
+use Rattle.refusals.specs.declared.Written.{Written}
+use Rattle.refusals.specs.declared.Written.the-variants.{Frame, Refused}
 use Rattle.refusals.specs.Refused.{refusedWith, range, room}
 use Rattle.frames_tongzhu.specs.declared.Kind.{Kind}
 use Rattle.frames_tongzhu.specs.Functions.{kindOf}
@@ -17,8 +19,6 @@ use Rattle.frames_tongzhu.specs.Writing.{frameBytes, begun, sealed}
 use Rattle.frames_tongzhu.proofs.Writers.{begun-front, frame-made, frame-length}
 use Rattle.requests_tongzhu.specs.declared.Time.{Time}
 use Rattle.requests_tongzhu.specs.declared.Request.the-variants.{Ask, SetTime}
-use Rattle.requests_tongzhu.specs.declared.Written.{Written}
-use Rattle.requests_tongzhu.specs.declared.Written.the-variants.{Frame, Refused}
 use Rattle.requests_tongzhu.specs.Times.{real, timeBytes}
 use Rattle.requests_tongzhu.specs.Requests.{Wire, bytes, none, askWire, wireOf, writtenOf, roomAfter}
 

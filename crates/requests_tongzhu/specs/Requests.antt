@@ -7,6 +7,8 @@ use lib.ListN.{length, take, drop}
 use lib.Dec.{ltb, eqb}
 use Rattle.laws.specs.Choice.{pick}
 use Rattle.refusals.specs.declared.Refusal.{Refusal}
+use Rattle.refusals.specs.declared.Written.{Written}
+use Rattle.refusals.specs.declared.Written.the-variants.{Frame, Refused as NotWritten}
 use Rattle.refusals.specs.Refused.{refusedWith, request, shape, range, room}
 use Rattle.frames_tongzhu.specs.declared.Kind.{Kind}
 use Rattle.frames_tongzhu.specs.declared.Kind.the-variants.{Reads, Sets, Unlisted}
@@ -18,8 +20,6 @@ use Rattle.frames_tongzhu.specs.Writing.{frameBytes}
 use Rattle.requests_tongzhu.specs.declared.Time.{Time}
 use Rattle.requests_tongzhu.specs.declared.Request.{Request}
 use Rattle.requests_tongzhu.specs.declared.Request.the-variants.{Ask, SetTime}
-use Rattle.requests_tongzhu.specs.declared.Written.{Written}
-use Rattle.requests_tongzhu.specs.declared.Written.the-variants.{Frame, Refused as NotWritten}
 use Rattle.requests_tongzhu.specs.declared.Parsed.{Parsed}
 use Rattle.requests_tongzhu.specs.declared.Parsed.the-variants.{Is, Refused}
 use Rattle.requests_tongzhu.specs.Times.{real, timeIn, timeBytes}

@@ -11,6 +11,7 @@ use frames_tongzhu::kind_of;
 use frames_tongzhu::read_frame;
 use frames_tongzhu::seal;
 use refusals::Refusal;
+use refusals::Written;
 use refusals::refuse;
 ghost use mathlib.Core.Path.{_≡_};
 ghost use lib.ListN.{length};
@@ -33,14 +34,6 @@ pub enum Request {
     // Asks for what the function reads.
     Ask(u8),
     SetTime(Time),
-}
-
-// What became of a request that was to be written.
-pub enum Written {
-    // A frame of so many bytes stands at the front.
-    Frame(usize),
-    // Nothing was written.
-    Refused(Refusal),
 }
 
 // What request the input is.

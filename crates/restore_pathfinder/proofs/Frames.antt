@@ -11,6 +11,8 @@ use lib.Signed.{mag, leZ}
 use lib.ListN.{length, getD, drop}
 use borrow.Author.Tests.{leb-true, ltb-true, ltb-false, le-ltb}
 use Rattle.laws.proofs.Ladders.{both}
+use Rattle.refusals.specs.declared.Written.{Written}
+use Rattle.refusals.specs.declared.Written.the-variants.{Frame as HasFrame, Refused as NoFrame}
 use Rattle.numbers.specs.declared.Order.the-variants.{LowFirst}
 use Rattle.numbers.specs.Bytes.{bytesOf}
 use Rattle.numbers.specs.Signed.{bitsOf}
@@ -18,8 +20,6 @@ use Rattle.frames_pathfinder.specs.Writing.{frameBytes}
 use Rattle.registers_pathfinder.specs.Registers.{count, lows, highs, within, inRange}
 use Rattle.requests_pathfinder.specs.declared.Request.the-variants.{Write}
 use Rattle.requests_pathfinder.specs.declared.Parsed.the-variants.{Is}
-use Rattle.requests_pathfinder.specs.declared.Written.{Written}
-use Rattle.requests_pathfinder.specs.declared.Written.the-variants.{Frame as HasFrame, Refused as NoFrame}
 use Rattle.requests_pathfinder.specs.Requests.{faultOf, writtenAs, sentAs}
 use Rattle.requests_pathfinder.specs.Reading.{requestOf}
 use Rattle.requests_pathfinder.proofs.RoundTrip.{written-reads-back-request}

@@ -13,9 +13,9 @@ use types.Run.{OneOf}
 use denote.Enum.Declared.{tagOf}
 use borrow.Author.Tests.{lt-ltb, le-ltb}
 use Rattle.refusals.specs.declared.Refusal.{Refusal}
+use Rattle.refusals.specs.declared.Written.{Written}
 use Rattle.refusals.specs.Refused.{refusedWith, room, turn}
 use Rattle.requests_pathfinder.specs.declared.Request.the-variants.{Write}
-use Rattle.requests_pathfinder.specs.declared.Written.{Written}
 use Rattle.requests_pathfinder.specs.Requests.{sentAs, roomAfter}
 use Rattle.restore_order.specs.Slots.{slots, at, writes, put}
 use Rattle.restore_order.specs.Machine as M

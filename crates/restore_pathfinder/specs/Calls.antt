@@ -4,13 +4,13 @@ use mathlib.Core.List.{List}
 use Prim.Native.Nat.{ℕ}
 use lib.IntN.{ℤ, pos}
 use lib.ListN.{length, replicate}
+use Rattle.refusals.specs.declared.Written.{Written}
+use Rattle.refusals.specs.declared.Written.the-variants.{Frame as HasFrame, Refused as NoFrame}
 use Rattle.refusals.specs.Refused.{refusedWith, request}
 use Rattle.records_pathfinder.specs.declared.Reply.{Reply}
 use Rattle.records_pathfinder.specs.declared.Reply.the-variants.{Words, Name, Written as IsWritten, Failure as IsFailure, Refused as IsRefused}
 use Rattle.records_pathfinder.specs.Replies.{replyOf}
 use Rattle.requests_pathfinder.specs.declared.Request.the-variants.{Write}
-use Rattle.requests_pathfinder.specs.declared.Written.{Written}
-use Rattle.requests_pathfinder.specs.declared.Written.the-variants.{Frame as HasFrame, Refused as NoFrame}
 use Rattle.requests_pathfinder.specs.Requests.{sentAs, roomAfter}
 use Rattle.restore_order.specs.Slots.{slots}
 use Rattle.restore_order.specs.Machine as M

@@ -2,9 +2,9 @@
 // Each call is one step of the small machine of `restore_order`, about which demand 3 is proved; next's write goes out as a frame of request 0E.
 use records_pathfinder::read_reply;
 use refusals::Refusal;
+use refusals::Written;
 use refusals::refuse;
 use requests_pathfinder::Request;
-use requests_pathfinder::Written;
 use requests_pathfinder::write_request;
 use restore_rules::First;
 use restore_rules::Verdict;

@@ -3,7 +3,7 @@
 use mathlib.Core.Path.{ap, _∙_}
 use Rattle.requests_pathfinder.specs.declared.Request.the-variants.{Ask}
 use Rattle.requests_pathfinder.specs.Requests.{roomAfter}
-use Rattle.exports.specs.Codes.{writtenCode}
+use Rattle.exports_rows.specs.Writing.{writtenCode}
 use borrow.Author.Needs.{needs}
 use Rattle.exports.proofs.tracksaffron_pf_ask.Statement.{statement}
 use Rattle.exports.proofs.tracksaffron_pf_ask.Tie as tie

@@ -5,11 +5,11 @@ use lib.IntN.{ℤ}
 use lib.ListN.{length}
 use mir.Syntax.{w32}
 use mir.ValLaws.{toZ-ofZ}
+use Rattle.refusals.specs.declared.Written.{Written}
 use Rattle.requests_pathfinder.specs.declared.Request.{Request}
 use Rattle.requests_pathfinder.specs.declared.Request.the-variants.{Write}
-use Rattle.requests_pathfinder.specs.declared.Written.{Written}
 use Rattle.requests_pathfinder.specs.Requests.{sentAs, roomAfter}
-use Rattle.exports.specs.Codes.{writtenCode}
+use Rattle.exports_rows.specs.Writing.{writtenCode}
 use borrow.Author.Needs.{needs}
 use Rattle.exports.proofs.tracksaffron_pf_write.Statement.{statement}
 use Rattle.exports.proofs.tracksaffron_pf_write.Tie as tie

@@ -1,13 +1,10 @@
 -- `exports_pace::put_analog` meets its contract: 11 where the row is too short, else its parts, placed one behind the other.
 -- Assumes nothing.
-use mathlib.Core.Path.{ap, _∙_}
-use mathlib.Core.List.{map}
+use mathlib.Core.Path.{refl}
 use native.Mathlib.Omega.{arith}
-use lib.IntN.{pos}
-use Rattle.exports_rows.specs.Told.{placed}
-use Rattle.exports_rows.proofs.Placing.{total, parts-told, parts-untold}
-use Rattle.exports_pace.specs.Replies.{analogParts, analogSizes}
-use Rattle.exports_pace.proofs.Rows.{analog-sized}
+use Rattle.exports_rows.proofs.Placing.{total}
+use Rattle.exports_pace.specs.Replies.{analogNumbers}
+use Rattle.exports_pace.proofs.Rows.{record-untold, record-told}
 use borrow.Author.Needs.{needs}
 use Rattle.exports_pace.proofs.put_analog.Statement.{statement}
 use Rattle.exports_pace.proofs.put_analog.Tie as tie
@@ -17,7 +14,7 @@ cast-result c = search needs
 
 returns : tie.Need-returns
 unfolding total
-returns c = let a = c .before .args in parts-untold 1 (analogParts (a .a) (a .t2) (a .t3)) analogSizes (analog-sized (a .a) (a .t2) (a .t3) (search needs) (search needs)) (a .row .now) (search needs)
+returns c = let a = c .before .args in record-untold 1 8 (analogNumbers (a .a)) (a .t2) (a .t3) (a .row .now) refl (search needs) (search needs) (search needs)
 
 analog-numbers-requires : tie.Need-analog-numbers-requires
 analog-numbers-requires c κs = search needs
@@ -50,11 +47,13 @@ returns-2 : tie.Need-returns-2
 unfolding total
 returns-2 c =
     let a = c .before .before .before .before .before .before .before .before .before .before .before .before .before .before .before .args in
-    let told = parts-told 1 (analogParts (a .a) (a .t2) (a .t3)) analogSizes (analog-sized (a .a) (a .t2) (a .t3) (search needs) (search needs)) (a .row .now) (omega (arith, c .before .before .before .before .before .before .before .before .before .before .before .before .before .before .if1 .left)) in (
-      c .coded .ensures ∙ told .0,
-      c .before .before .put-i322 .ensures ∙ ap (placed 24 (a .t3)) (c .before .before .before .before .before .before .put-u16 .ensures ∙ ap (placed 8 (map pos (a .t2)))
-          (c .before .before .before .before .before .before .before .before .before .before .put-i32 .ensures ∙ ap (λ ns. placed 0 ns (a .row .now)) (c .before .before .before .before .before .before .before .before .before .before .before .before .before .analog-numbers .ensures))) ∙ told .1,
-    )
+    record-told 1 8 (analogNumbers (a .a)) (a .t2) (a .t3) (a .row .now) refl (search needs) (search needs)
+    (omega (arith, c .before .before .before .before .before .before .before .before .before .before .before .before .before .before .if1 .left))
+    (c .coded .ensures)
+    (c .before .before .before .before .before .before .before .before .before .before .before .before .before .analog-numbers .ensures)
+    (c .before .before .before .before .before .before .before .before .before .before .put-i32 .ensures)
+    (c .before .before .before .before .before .before .put-u16 .ensures)
+    (c .before .before .put-i322 .ensures)
 
 pub put-analog-spec : {M : Type 1} → statement M
 put-analog-spec =

@@ -1,13 +1,13 @@
 -- `exports_pace::put_warnings` meets its contract: 11 where the row is too short, else its parts, placed one behind the other.
 -- Assumes nothing.
-use mathlib.Core.Path.{ap, _∙_}
+use mathlib.Core.Path.{refl, _∙_}
 use mathlib.Core.List.{map}
 use native.Mathlib.Omega.{arith}
 use lib.IntN.{pos}
-use Rattle.exports_rows.specs.Told.{placed}
-use Rattle.exports_rows.proofs.Placing.{total, parts-told, parts-untold}
-use Rattle.exports_pace.specs.Replies.{warningParts, warningSizes}
-use Rattle.exports_pace.proofs.Rows.{warning-sized}
+use lib.ListN.{length-map}
+use Rattle.exports_rows.proofs.Placing.{total}
+use Rattle.exports_pace.specs.Replies.{warningNumbers}
+use Rattle.exports_pace.proofs.Rows.{record-untold, record-told}
 use borrow.Author.Needs.{needs}
 use Rattle.exports_pace.proofs.put_warnings.Statement.{statement}
 use Rattle.exports_pace.proofs.put_warnings.Tie as tie
@@ -17,7 +17,7 @@ cast-result c = search needs
 
 returns : tie.Need-returns
 unfolding total
-returns c = let a = c .before .args in parts-untold 2 (warningParts (a .w) (a .t2) (a .t3)) warningSizes (warning-sized (a .w) (a .t2) (a .t3) (search needs) (search needs)) (a .row .now) (search needs)
+returns c = let a = c .before .args in record-untold 2 14 (warningNumbers (a .w)) (a .t2) (map pos (a .t3)) (a .row .now) refl (search needs) (length-map (a .t3) pos ∙ search needs) (search needs)
 
 warning-numbers-requires : tie.Need-warning-numbers-requires
 warning-numbers-requires c κs = search needs
@@ -50,11 +50,13 @@ returns-2 : tie.Need-returns-2
 unfolding total
 returns-2 c =
     let a = c .before .before .before .before .before .before .before .before .before .before .before .before .before .before .before .args in
-    let told = parts-told 2 (warningParts (a .w) (a .t2) (a .t3)) warningSizes (warning-sized (a .w) (a .t2) (a .t3) (search needs) (search needs)) (a .row .now) (omega (arith, c .before .before .before .before .before .before .before .before .before .before .before .before .before .before .if1 .left)) in (
-      c .coded .ensures ∙ told .0,
-      c .before .before .put-u82 .ensures ∙ ap (placed 30 (map pos (a .t3))) (c .before .before .before .before .before .before .put-u8 .ensures ∙ ap (placed 14 (map pos (a .t2)))
-          (c .before .before .before .before .before .before .before .before .before .before .put-i32 .ensures ∙ ap (λ ns. placed 0 ns (a .row .now)) (c .before .before .before .before .before .before .before .before .before .before .before .before .before .warning-numbers .ensures))) ∙ told .1,
-    )
+    record-told 2 14 (warningNumbers (a .w)) (a .t2) (map pos (a .t3)) (a .row .now) refl (search needs) (length-map (a .t3) pos ∙ search needs)
+    (omega (arith, c .before .before .before .before .before .before .before .before .before .before .before .before .before .before .if1 .left))
+    (c .coded .ensures)
+    (c .before .before .before .before .before .before .before .before .before .before .before .before .before .warning-numbers .ensures)
+    (c .before .before .before .before .before .before .before .before .before .before .put-i32 .ensures)
+    (c .before .before .before .before .before .before .put-u8 .ensures)
+    (c .before .before .put-u82 .ensures)
 
 pub put-warnings-spec : {M : Type 1} → statement M
 put-warnings-spec =

@@ -3,7 +3,7 @@
 use mathlib.Core.Path.{ap, _∙_}
 use Rattle.requests_pace.specs.declared.Request.the-variants.{Ask}
 use Rattle.requests_pace.specs.Request.{roomAfter}
-use Rattle.exports_pace.specs.Requests.{writtenCode}
+use Rattle.exports_rows.specs.Writing.{writtenCode}
 use borrow.Author.Needs.{needs}
 use Rattle.exports_pace.proofs.tracksaffron_pace_ask.Statement.{statement}
 use Rattle.exports_pace.proofs.tracksaffron_pace_ask.Tie as tie

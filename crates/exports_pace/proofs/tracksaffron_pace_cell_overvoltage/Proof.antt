@@ -2,7 +2,8 @@
 -- Assumes nothing.
 use mathlib.Core.Path.{ap, _∙_}
 use Rattle.requests_pace.specs.Request.{roomAfter}
-use Rattle.exports_pace.specs.Requests.{overvoltage, writtenCode}
+use Rattle.exports_rows.specs.Writing.{writtenCode}
+use Rattle.exports_pace.specs.Requests.{overvoltage}
 use borrow.Author.Needs.{needs}
 use Rattle.exports_pace.proofs.tracksaffron_pace_cell_overvoltage.Statement.{statement}
 use Rattle.exports_pace.proofs.tracksaffron_pace_cell_overvoltage.Tie as tie

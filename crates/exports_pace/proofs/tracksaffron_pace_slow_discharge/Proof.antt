@@ -2,7 +2,8 @@
 -- Assumes nothing.
 use mathlib.Core.Path.{ap, _∙_}
 use Rattle.requests_pace.specs.Request.{roomAfter}
-use Rattle.exports_pace.specs.Requests.{discharge, writtenCode}
+use Rattle.exports_rows.specs.Writing.{writtenCode}
+use Rattle.exports_pace.specs.Requests.{discharge}
 use borrow.Author.Needs.{needs}
 use Rattle.exports_pace.proofs.tracksaffron_pace_slow_discharge.Statement.{statement}
 use Rattle.exports_pace.proofs.tracksaffron_pace_slow_discharge.Tie as tie

@@ -1,8 +1,8 @@
 -- `requests_pace::write_ask` meets its contract: by the kind of the command, the frame by its writer's contract.
 -- Assumes nothing.
 use mathlib.Core.Path.{_≡_, refl, sym, ap, _∙_}
+use Rattle.refusals.specs.declared.Written.the-variants.{Refused}
 use Rattle.refusals.specs.Refused.{refusedWith}
-use Rattle.frames_pace.specs.declared.Written.the-variants.{Refused}
 use Rattle.rows_pace.specs.Commands.{commandOf}
 use Rattle.requests_pace.specs.declared.Kind.{Kind}
 use Rattle.requests_pace.specs.Request.{kindOf}

@@ -2,7 +2,7 @@
 -- Assumes nothing.
 use mathlib.Core.Path.{_≡_, refl, sym, ap, _∙_}
 use borrow.Author.Tests.{not-true, not-false}
-use Rattle.frames_pace.specs.declared.Written.the-variants.{Refused}
+use Rattle.refusals.specs.declared.Written.the-variants.{Refused}
 use Rattle.requests_pace.proofs.Writing.{values-refused, info-fits, values-written}
 use borrow.Author.Needs.{needs}
 use Rattle.requests_pace.proofs.write_values.Statement.{statement}

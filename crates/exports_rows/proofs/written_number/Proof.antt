@@ -1,10 +1,10 @@
--- `exports_pace::written_number` meets its contract: each answer by the kind that it goes out as.
+-- `exports_rows::written_number` meets its contract: each answer by the kind that it goes out as.
 -- Assumes nothing.
 use mathlib.Core.Path.{sym, ap, _∙_}
-use Rattle.exports_pace.specs.Requests.{writtenCode}
+use Rattle.exports_rows.specs.Writing.{writtenCode}
 use borrow.Author.Needs.{needs}
-use Rattle.exports_pace.proofs.written_number.Statement.{statement}
-use Rattle.exports_pace.proofs.written_number.Tie as tie
+use Rattle.exports_rows.proofs.written_number.Statement.{statement}
+use Rattle.exports_rows.proofs.written_number.Tie as tie
 
 enum-known-w : tie.Need-enum-known-w
 enum-known-w c = search needs
