@@ -79,13 +79,6 @@ pub fn close65536(s: &[u8]) -> u16
     ((65536 - sum_low(s) % 65536) % 65536) as u16
 }
 
-// Whether the bytes and their check sum to 0 modulo 256.
-pub fn closes256(s: &[u8], check: u8) -> bool
-    ensures { λ r. ⌜ r ≡ closes 256 (total (now (s .entry))) check ⌝ }
-{
-    (sum_low(s) + check as u32) % 256 == 0
-}
-
 // Whether the bytes and their check sum to 0 modulo 65,536.
 pub fn closes65536(s: &[u8], check: u16) -> bool
     ensures { λ r. ⌜ r ≡ closes 65536 (total (now (s .entry))) check ⌝ }
@@ -93,7 +86,7 @@ pub fn closes65536(s: &[u8], check: u16) -> bool
     (sum_low(s) + check as u32) % 65536 == 0
 }
 
-// The low byte of the sum of the bytes, the check of the 58-byte monitor (001, byte 58).
+// The low byte of the sum of the bytes: 0 for a whole Tongzhu frame (01, Tongzhu), the check of the 58-byte monitor (001, byte 58).
 pub fn sum256(s: &[u8]) -> u8
     ensures { λ r. ⌜ r ≡ total (now (s .entry)) % 256 ⌝ }
 {

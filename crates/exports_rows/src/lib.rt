@@ -67,23 +67,6 @@ pub fn put_i32(numbers: &[i32], at: usize, row: &mut [i32])
     }
 }
 
-// The same of signed bytes.
-pub fn put_i8(numbers: &[i8], at: usize, row: &mut [i32])
-    ensures { λ _. ⌜ now (row .exit) ≡ placed at (now (numbers .entry)) (now (row .entry)) ⌝ }
-{
-    if row.len() < at {
-        return;
-    }
-    if row.len() - at < numbers.len() {
-        return;
-    }
-    let mut i = 0;
-    while i < numbers.len() {
-        row[at + i] = signed(numbers[i]);
-        i += 1;
-    }
-}
-
 // The same of bytes.
 pub fn put_u8(numbers: &[u8], at: usize, row: &mut [i32])
     ensures { λ _. ⌜ now (row .exit) ≡ placed at (map pos (now (numbers .entry))) (now (row .entry)) ⌝ }

@@ -11,6 +11,7 @@ use Rattle.records_tongzhu.specs.declared.Monitor2.{Monitor2}
 use Rattle.records_tongzhu.specs.declared.Answer.{Answer}
 use Rattle.records_tongzhu.specs.declared.Answer.the-variants as is
 use Rattle.records_tongzhu.specs.declared.Reply.{Reply}
+use Rattle.records_tongzhu.specs.Replies.{listsBeside}
 
 -- places 0 to 3: the status bytes
 abbrev pub statusNumbers : Status → List ℤ
@@ -57,3 +58,7 @@ toldAs (is.Refused r) l = refused r
 
 abbrev pub toldOf : Reply → Told
 toldOf r = toldAs (r .answer) (r .lists)
+
+-- an answer with the lists that go with it in its payload
+abbrev pub toldIn : Answer → List ℕ → Told
+toldIn a p = toldAs a (listsBeside a p)

@@ -3,31 +3,39 @@
 use exports_rows::byte;
 use exports_rows::coded;
 use exports_rows::half;
-use exports_rows::put_i8;
 use exports_rows::put_i32;
 use exports_rows::put_numbers;
-use exports_rows::put_u8;
-use exports_rows::put_u16;
 use exports_rows::signed;
 use exports_rows::signed_half;
-use monitor3_tongzhu::Lists;
+use exports_rows::written_number;
+use frames_tongzhu::Frame;
+use frames_tongzhu::read_frame;
+use monitor3_tongzhu::Found;
 use monitor3_tongzhu::Monitor3;
 use monitor3_tongzhu::Status;
+use monitor3_tongzhu::find_lists;
+use monitor3_tongzhu::read_numbers;
+use numbers::Order;
+use numbers::number16;
+use numbers::signed8;
 use records_tongzhu::Answer;
 use records_tongzhu::Monitor2;
-use records_tongzhu::Reply;
-use records_tongzhu::read_reply;
-use refusals::Written;
+use records_tongzhu::answer_to;
 use requests_tongzhu::Request;
 use requests_tongzhu::Time;
 use requests_tongzhu::write_request;
 ghost use mathlib.Core.Path.{_≡_};
-ghost use lib.ListN.{length};
-ghost use Rattle.records_tongzhu.specs.Replies.{replyOf};
+ghost use Prim.Native.Nat.{_+_, _*_, _≤_};
+ghost use lib.IntN.{pos};
+ghost use lib.ListN.{length, getD, replicate};
+ghost use Rattle.monitor3_tongzhu.specs.Values.{numberAt, temperatureAt, placesOf};
+ghost use Rattle.monitor3_tongzhu.specs.Layout.{foundAt, listsAt};
+ghost use Rattle.records_tongzhu.specs.Replies.{answerIn, answerTo, replyOf};
 ghost use Rattle.exports_rows.specs.Told.{codeOf, rowAfter, roomCode, over};
+ghost use Rattle.exports_rows.specs.Writing.{writtenCode};
 ghost use Rattle.requests_tongzhu.specs.Requests.{wireOf, writtenOf, roomAfter};
-ghost use Rattle.exports_tongzhu.specs.Requests.{timeOf, writtenCode};
-ghost use Rattle.exports_tongzhu.specs.Replies.{statusNumbers, monitor2Numbers, monitor3Numbers, allNumbers, listed, toldOf};
+ghost use Rattle.exports_tongzhu.specs.Requests.{timeOf};
+ghost use Rattle.exports_tongzhu.specs.Replies.{statusNumbers, monitor2Numbers, monitor3Numbers, allNumbers, listed, toldIn, toldOf};
 
 // How many numbers a monitor 3 has: its own, then 32 cells, 4 bytes of balance, 16 sensors and 16 MOSFET sensors.
 const MONITOR3: usize = 80;
@@ -38,7 +46,15 @@ pub extern "C" fn tracksaffron_tz_read(asked: u8, s: &[u8], row: &mut [i32]) -> 
     ensures answer { λ r. ⌜ r ≡ codeOf (toldOf (replyOf asked (now (s .entry)))) (length (now (row .entry))) 0 ⌝ }
     ensures filled { λ r. ⌜ now (row .exit) ≡ rowAfter (toldOf (replyOf asked (now (s .entry)))) (now (row .entry)) ⌝ }
 {
-    tell(read_reply(asked, s), row)
+    let f = read_frame(s);
+    match f {
+        Frame::Refused(why) => why.number as u64,
+        Frame::Whole {
+            function,
+            start,
+            len,
+        } => tell_payload(asked, function, &s[start..start + len], row),
+    }
 }
 
 // Writes the request that asks for what a Tongzhu function reads.
@@ -75,27 +91,40 @@ pub extern "C" fn tracksaffron_tz_set_time(
     written_number(write_request(Request::SetTime(t), out))
 }
 
-fn written_number(w: Written) -> u64
-    ensures { λ n. ⌜ n ≡ writtenCode w ⌝ }
+// What a whole frame answers. A monitor 3, the longest reply, goes its own way: the answers to all functions would share its registers.
+fn tell_payload(asked: u8, function: u8, p: &[u8], row: &mut [i32]) -> u64
+    ensures answer { λ n. ⌜ n ≡ codeOf (toldIn (answerTo asked function (now (p .entry))) (now (p .entry))) (length (now (row .entry))) 0 ⌝ }
+    ensures filled { λ n. ⌜ now (row .exit) ≡ rowAfter (toldIn (answerTo asked function (now (p .entry))) (now (p .entry))) (now (row .entry)) ⌝ }
 {
-    match w {
-        Written::Frame(n) => coded(1, n),
-        Written::Refused(r) => r.number as u64,
+    if asked == 0x12 {
+        if function == 0x12 {
+            return tell_monitor3(p, row);
+        }
+    }
+    tell(answer_to(asked, function, p), p, row)
+}
+
+fn tell_monitor3(p: &[u8], row: &mut [i32]) -> u64
+    ensures answer { λ n. ⌜ n ≡ codeOf (toldIn (answerIn (foundAt (now (p .entry)) 0)) (now (p .entry))) (length (now (row .entry))) 0 ⌝ }
+    ensures filled { λ n. ⌜ now (row .exit) ≡ rowAfter (toldIn (answerIn (foundAt (now (p .entry)) 0)) (now (p .entry))) (now (row .entry)) ⌝ }
+{
+    let f = read_numbers(p, 0);
+    match f {
+        Found::Read(m) => put_monitor3(m, p, row),
+        Found::Refused(why) => why.number as u64,
     }
 }
 
-fn tell(r: Reply, row: &mut [i32]) -> u64
-    ensures answer { λ n. ⌜ n ≡ codeOf (toldOf r) (length (now (row .entry))) 0 ⌝ }
-    ensures filled { λ n. ⌜ now (row .exit) ≡ rowAfter (toldOf r) (now (row .entry)) ⌝ }
+fn tell(answer: Answer, p: &[u8], row: &mut [i32]) -> u64
+    ensures answer { λ n. ⌜ n ≡ codeOf (toldIn answer (now (p .entry))) (length (now (row .entry))) 0 ⌝ }
+    ensures filled { λ n. ⌜ now (row .exit) ≡ rowAfter (toldIn answer (now (p .entry))) (now (row .entry)) ⌝ }
 {
-    let answer = r.answer;
-    let lists = r.lists;
     match answer {
         Answer::Monitor2(m) => {
             let numbers = monitor2_numbers(m);
             put_numbers(1, &numbers, row)
         }
-        Answer::Monitor3(m) => put_monitor3(m, lists, row),
+        Answer::Monitor3(m) => put_monitor3(m, p, row),
         Answer::Status(s) => {
             let numbers = status_numbers(s);
             put_numbers(3, &numbers, row)
@@ -160,29 +189,76 @@ fn monitor3_numbers(m: Monitor3) -> [i32; 12]
     ]
 }
 
-fn put_monitor3(m: Monitor3, lists: Lists, row: &mut [i32]) -> u64
-    ensures answer { λ n. ⌜ n ≡ roomCode 2 (length (allNumbers m lists)) (length (now (row .entry))) ⌝ }
-    ensures filled { λ n. ⌜ now (row .exit) ≡ over (allNumbers m lists) (now (row .entry)) ⌝ }
+fn put_monitor3(m: Monitor3, p: &[u8], row: &mut [i32]) -> u64
+    ensures answer { λ n. ⌜ n ≡ roomCode 2 (length (allNumbers m (listsAt (now (p .entry)) 0))) (length (now (row .entry))) ⌝ }
+    ensures filled { λ n. ⌜ now (row .exit) ≡ over (allNumbers m (listsAt (now (p .entry)) 0)) (now (row .entry)) ⌝ }
 {
     if row.len() < MONITOR3 {
         return refusals::ROOM as u64;
     }
     let numbers = monitor3_numbers(m);
     put_i32(&numbers, 0, row);
-    put_lists(lists, row);
+    put_lists(p, row);
     coded(2, MONITOR3)
 }
 
-// The lists behind the numbers of a monitor 3.
-fn put_lists(lists: Lists, row: &mut [i32])
-    ensures { λ _. ⌜ now (row .exit) ≡ listed lists (now (row .entry)) ⌝ }
+// The lists behind the numbers of a monitor 3, each from the payload straight into its places.
+fn put_lists(p: &[u8], row: &mut [i32])
+    requires { ⌜ 80 ≤ length (now row) ⌝ }
+    ensures { λ _. ⌜ now (row .exit) ≡ listed (listsAt (now (p .entry)) 0) (now (row .entry)) ⌝ }
 {
-    let cells = lists.cells;
-    let balance = lists.balance;
-    let sensors = lists.sensors;
-    let mosfets = lists.mosfets;
-    put_u16(&cells, 12, row);
-    put_u8(&balance, 44, row);
-    put_i8(&sensors, 48, row);
-    put_i8(&mosfets, 64, row);
+    let w = find_lists(p, 0);
+    put_voltages(p, w.cells_from, w.cells, &mut row[12..44]);
+    put_flags(p, w.balance_from, w.balance, &mut row[44..48]);
+    put_temperatures(p, w.sensors_from, w.sensors, &mut row[48..64]);
+    put_temperatures(p, w.mosfets_from, w.mosfets, &mut row[64..80]);
+}
+
+// n voltages from the place `from` on, 0 past them.
+fn put_voltages(p: &[u8], from: usize, n: usize, row: &mut [i32])
+    requires { ⌜ (n ≤ length (now row)) × (from + 2 * n ≤ length (now p)) ⌝ }
+    ensures { λ _. ⌜ now (row .exit) ≡ placesOf (length (now (row .entry))) (pos 0) (λ i. pos (numberAt (now (p .entry)) (from + 2 * i))) n ⌝ }
+{
+    clear(row);
+    let mut i = 0;
+    while i < n {
+        row[i] = half(number16(Order::LowFirst, p[from + 2 * i], p[from + 2 * i + 1]));
+        i += 1;
+    }
+}
+
+// n bytes of the balanced state from the place `from` on, 0 past them.
+fn put_flags(p: &[u8], from: usize, n: usize, row: &mut [i32])
+    requires { ⌜ (n ≤ length (now row)) × (from + n ≤ length (now p)) ⌝ }
+    ensures { λ _. ⌜ now (row .exit) ≡ placesOf (length (now (row .entry))) (pos 0) (λ i. pos (getD (now (p .entry)) (from + i) 0)) n ⌝ }
+{
+    clear(row);
+    let mut i = 0;
+    while i < n {
+        row[i] = byte(p[from + i]);
+        i += 1;
+    }
+}
+
+// n temperatures from the place `from` on, 0 past them.
+fn put_temperatures(p: &[u8], from: usize, n: usize, row: &mut [i32])
+    requires { ⌜ (n ≤ length (now row)) × (from + n ≤ length (now p)) ⌝ }
+    ensures { λ _. ⌜ now (row .exit) ≡ placesOf (length (now (row .entry))) (pos 0) (λ i. temperatureAt (now (p .entry)) (from + i)) n ⌝ }
+{
+    clear(row);
+    let mut i = 0;
+    while i < n {
+        row[i] = signed(signed8(p[from + i]));
+        i += 1;
+    }
+}
+
+fn clear(row: &mut [i32])
+    ensures { λ _. ⌜ now (row .exit) ≡ replicate (length (now (row .entry))) (pos 0) ⌝ }
+{
+    let mut i = 0;
+    while i < row.len() {
+        row[i] = 0;
+        i += 1;
+    }
 }

@@ -1,24 +1,30 @@
 -- The ways out of `frameOf`, each from the facts that the reader has there, and what a whole frame says of its bytes.
 -- Each way rewrites the ladder with its tests; the inversion goes down the ladder past each refusal. Assumes nothing.
-use mathlib.Core.Path.{_≡_, refl, sym, _∙_}
+use mathlib.Core.Path.{_≡_, refl, sym, ap, _∙_}
 use mathlib.Core.Bool.{Bool, true, false, _&&_}
-use mathlib.Core.List.{List}
-use Prim.Native.Nat.{ℕ, _+_, _-_, _<_, _≤_}
+use mathlib.Core.List.{List, []}
+use Prim.Native.Nat.{ℕ, suc, _+_, _-_, _%_, _<_, _≤_}
 use native.Mathlib.Omega.{arith}
 use borrow.Author.Tests.{lt-ltb, le-ltb, eq-eqb, ne-eqb, ltb-false, eqb-true, eqb-false}
 use lib.Dec.{ltb, eqb}
 use lib.ListN.{length, getD, take, drop}
-use lib.Seq.{getD-take, length-take-le}
+use lib.Seq.{getD-take, length-take-le, take-all, take-suc}
 use Rattle.laws.proofs.Ladders.{past, into, both}
 use Rattle.refusals.specs.declared.Refusal.{Refusal}
 use Rattle.refusals.specs.Refused.{refusedWith, short, firstMark, lengths, checksum, address}
 use Rattle.checks.specs.Sums.{total, closes}
+use Rattle.checks.proofs.Closing.{total-at}
 use Rattle.frames_tongzhu.specs.declared.Frame.the-variants.{Whole, Refused}
 use Rattle.frames_tongzhu.specs.Reading.{checked, check, frameOf}
 
--- what the reader hands to the sum is all bytes but the last
-pub part-checked : (s : List ℕ) → take (length s - 1 - 0) s ≡ checked s
-part-checked s = let e : length s - 1 - 0 ≡ length s - 1 = omega arith in rw e
+-- the sum of all bytes is that of all but the last, and the last: the check
+pub all-summed : (s : List ℕ) → 6 ≤ length s → total s ≡ total (checked s) + check s
+unfolding total
+all-summed s long =
+    let n = length s - 1 in
+    let e : length s ≡ suc n = omega arith in
+    let last = ap total (sym (take-all (length s) s (omega arith)) ∙ ap (λ (k : ℕ). take k s) e ∙ take-suc s n 0 (omega arith)) in
+    omega (arith, last, total-at (checked s) [] (check s))
 
 pub too-short : (s : List ℕ) → length s < 6 → Refused (refusedWith short) ≡ frameOf s
 unfolding frameOf

@@ -1,7 +1,7 @@
 // Tongzhu frames (002, 4; 01, Tongzhu): 7F, 10, 02, LEN, FUN, MSG, check. LEN counts the whole frame, 6 to 255, and all bytes
 // with the check sum to 0 modulo 256. Also which functions there are.
 use checks::close256;
-use checks::closes256;
+use checks::sum256;
 use refusals::Refusal;
 use refusals::refuse;
 ghost use mathlib.Core.Path.{_≡_};
@@ -57,7 +57,7 @@ pub fn read_frame(s: &[u8]) -> Frame
         return refused(refusals::LENGTH);
     }
     let last = s.len() - 1;
-    if !closes256(&s[0..last], s[last]) {
+    if sum256(s) != 0 {
         return refused(refusals::CHECKSUM);
     }
     if s[1] != 0x10 {

@@ -1,6 +1,6 @@
 -- The ways out of `shapeOf`, each from the facts that the code has there, and what counts that were accepted say of the number of bytes.
 -- Each way rewrites the test with its parts; the other way round the test is taken apart. Assumes nothing.
-use mathlib.Core.Path.{_≡_, sym, ap, _∙_}
+use mathlib.Core.Path.{_≡_, refl, sym, ap, _∙_}
 use mathlib.Core.List.{List, []}
 use Prim.Native.Nat.{ℕ, _+_, _-_, _*_, _<_, _≤_}
 use native.Mathlib.Omega.{arith}
@@ -10,12 +10,15 @@ use lib.IntN.{ℤ}
 use lib.ListN.{length, getD, take, drop, length-drop, drop-of-length-le}
 use lib.Seq.{take-all}
 use Rattle.laws.proofs.Ladders.{into, both}
+use Rattle.refusals.specs.Refused.{refusedWith, shape}
 use Rattle.monitor3_tongzhu.specs.declared.Status.{Status}
 use Rattle.monitor3_tongzhu.specs.declared.Monitor3.{Monitor3}
 use Rattle.monitor3_tongzhu.specs.declared.Counts.{Counts}
+use Rattle.monitor3_tongzhu.specs.declared.Shape.{Shape}
 use Rattle.monitor3_tongzhu.specs.declared.Shape.the-variants.{Counted, Wrong}
+use Rattle.monitor3_tongzhu.specs.declared.Found.the-variants.{Refused}
 use Rattle.monitor3_tongzhu.specs.Values.{numberAt, currentAt, statusAt}
-use Rattle.monitor3_tongzhu.specs.Layout.{flagBytes, shaped, countsOf, judgedShape, withCells, shapeOf, Shaped, tailOf, monitor3Of, wrongFields, fieldsOf, fieldsAt}
+use Rattle.monitor3_tongzhu.specs.Layout.{flagBytes, shaped, countsOf, judgedShape, withCells, shapeOf, Shaped, tailOf, monitor3Of, foundIn, foundOf, foundAt, nowhere, placesIn, placesAt, Within}
 
 module _ (q : List ℕ) (c t m : ℕ) (ec : c ≡ getD q 6 0) (et : t ≡ getD q (7 + 2 * c + flagBytes c) 0)
     (em : m ≡ getD q (8 + 2 * c + flagBytes c + t) 0) where
@@ -96,10 +99,50 @@ monitor3-is q k ps pi pa pb pd pw = rw (ps, pi, pa, pb, pd, pw)
 
 -- ---- fields that begin at an offset
 
-pub beyond : (p : List ℕ) (at : ℕ) → length p < at → wrongFields ≡ fieldsAt p at
-unfolding fieldsAt fieldsOf shapeOf
-beyond p at h = let none : drop at p ≡ [] = drop-of-length-le p {i = at} (omega arith) in sym (ap fieldsOf none)
+-- past the end nothing has a shape
+beyond : (p : List ℕ) (at : ℕ) → length p < at → shapeOf (drop at p) ≡ Wrong
+unfolding shapeOf
+beyond p at h = let none : drop at p ≡ [] = drop-of-length-le p {i = at} (omega arith) in ap shapeOf none
 
-pub from-there : (p : List ℕ) (at : ℕ) → fieldsOf (take (length p - at) (drop at p)) ≡ fieldsAt p at
-unfolding fieldsAt
-from-there p at = ap fieldsOf (take-all (length p - at) (drop at p) (rw length-drop (omega arith)))
+pub found-beyond : (p : List ℕ) (at : ℕ) → length p < at → Refused (refusedWith shape) ≡ foundAt p at
+unfolding foundAt foundOf
+found-beyond p at h = sym (ap (foundIn (drop at p)) (beyond p at h))
+
+pub places-beyond : (p : List ℕ) (at : ℕ) → length p < at → nowhere ≡ placesAt p at
+unfolding placesAt
+places-beyond p at h = sym (ap (placesIn at) (beyond p at h))
+
+-- what is lent from there on is what the definitions drop to
+pub from-there : (p : List ℕ) (at : ℕ) → take (length p - at) (drop at p) ≡ drop at p
+from-there p at = take-all (length p - at) (drop at p) (rw length-drop (omega arith))
+
+-- the places of the lists lie within the bytes
+pub places-within : (p : List ℕ) (at : ℕ) → Within (length p) (placesAt p at)
+unfolding placesAt
+places-within p at = go (shapeOf (drop at p)) refl
+  where
+    go : (s : Shape) → s ≡ shapeOf (drop at p) → Within (length p) (placesIn at s)
+    go (Counted k) e =
+        let b = counted-shaped (drop at p) k e in
+        let n = length-drop at p in
+        record {
+          few-cells = b .few-cells;
+          few-flags = b .few-flags;
+          few-sensors = b .few-sensors;
+          few-mosfets = b .few-mosfets;
+          cells-lie = omega (arith, b .total, n);
+          flags-lie = omega (arith, b .total, n);
+          sensors-lie = omega (arith, b .total, n);
+          mosfets-lie = omega (arith, b .total, n);
+        }
+    go Wrong e =
+        record {
+          few-cells = omega arith;
+          few-flags = omega arith;
+          few-sensors = omega arith;
+          few-mosfets = omega arith;
+          cells-lie = omega arith;
+          flags-lie = omega arith;
+          sensors-lie = omega arith;
+          mosfets-lie = omega arith;
+        }

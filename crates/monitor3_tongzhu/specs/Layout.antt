@@ -14,7 +14,8 @@ use Rattle.monitor3_tongzhu.specs.declared.Shape.the-variants.{Counted, 
 use Rattle.monitor3_tongzhu.specs.declared.Counts.{Counts}
 use Rattle.monitor3_tongzhu.specs.declared.Monitor3.{Monitor3}
 use Rattle.monitor3_tongzhu.specs.declared.Lists.{Lists}
-use Rattle.monitor3_tongzhu.specs.declared.Fields.{Fields}
+use Rattle.monitor3_tongzhu.specs.declared.Places.{Places}
+use Rattle.monitor3_tongzhu.specs.declared.Found.{Found}
 use Rattle.monitor3_tongzhu.specs.declared.Found.the-variants.{Read, Refused}
 use Rattle.monitor3_tongzhu.specs.Values.{numberAt, currentAt, temperatureAt, statusAt, placesOf}
 
@@ -66,14 +67,77 @@ monitor3Of q k = record {
   switch = getD q (tailOf k + 6) 0;
 }
 
--- the lists: cells after c, balanced state after them, temperatures after t and m
-unfoldable pub listsOf : List ℕ → Counts → Lists
-listsOf q k = record {
-  cells = placesOf 32 0 (λ i. numberAt q (7 + 2 * i)) (k .cells);
-  balance = placesOf 4 0 (λ i. getD q (7 + 2 * k .cells + i) 0) (k .flags);
-  sensors = placesOf 16 (pos 0) (λ i. temperatureAt q (8 + 2 * k .cells + k .flags + i)) (k .sensors);
-  mosfets = placesOf 16 (pos 0) (λ i. temperatureAt q (9 + 2 * k .cells + k .flags + k .sensors + i)) (k .mosfets);
+-- a payload of the wrong shape is 8
+abbrev pub foundIn : List ℕ → Shape → Found
+foundIn q (Counted k) = Read (monitor3Of q k)
+foundIn q Wrong = Refused (refusedWith shape)
+
+unfoldable pub foundOf : List ℕ → Found
+foundOf q = foundIn q (shapeOf q)
+
+-- the numbers of the fields that stand in the payload p from the place `at` to its end
+unfoldable pub foundAt : List ℕ → ℕ → Found
+foundAt p at = foundOf (drop at p)
+
+-- ---- the lists
+
+-- their places: cells after c, balanced state after them, temperatures after t and m
+abbrev pub placesBy : ℕ → Counts → Places
+placesBy at k = record {
+  «cells_from» = at + 7;
+  cells = k .cells;
+  «balance_from» = at + 7 + 2 * k .cells;
+  balance = k .flags;
+  «sensors_from» = at + 7 + 2 * k .cells + k .flags + 1;
+  sensors = k .sensors;
+  «mosfets_from» = at + 7 + 2 * k .cells + k .flags + 1 + k .sensors + 1;
+  mosfets = k .mosfets;
 }
+
+-- no values
+abbrev pub nowhere : Places
+nowhere = record {
+  «cells_from» = 0;
+  cells = 0;
+  «balance_from» = 0;
+  balance = 0;
+  «sensors_from» = 0;
+  sensors = 0;
+  «mosfets_from» = 0;
+  mosfets = 0;
+}
+
+abbrev pub placesIn : ℕ → Shape → Places
+placesIn at (Counted k) = placesBy at k
+placesIn at Wrong = nowhere
+
+-- where the lists of the fields stand in p
+unfoldable pub placesAt : List ℕ → ℕ → Places
+placesAt p at = placesIn at (shapeOf (drop at p))
+
+-- what holds of places in n bytes
+pub record Within (n : ℕ) (w : Places) : Type 0 where
+  pub few-cells : w .cells ≤ 32
+  pub few-flags : w .balance ≤ 4
+  pub few-sensors : w .sensors ≤ 16
+  pub few-mosfets : w .mosfets ≤ 16
+  pub cells-lie : w .«cells_from» + 2 * w .cells ≤ n
+  pub flags-lie : w .«balance_from» + w .balance ≤ n
+  pub sensors-lie : w .«sensors_from» + w .sensors ≤ n
+  pub mosfets-lie : w .«mosfets_from» + w .mosfets ≤ n
+
+-- the lists at these places of p
+unfoldable pub listsIn : List ℕ → Places → Lists
+listsIn p w = record {
+  cells = placesOf 32 0 (λ i. numberAt p (w .«cells_from» + 2 * i)) (w .cells);
+  balance = placesOf 4 0 (λ i. getD p (w .«balance_from» + i) 0) (w .balance);
+  sensors = placesOf 16 (pos 0) (λ i. temperatureAt p (w .«sensors_from» + i)) (w .sensors);
+  mosfets = placesOf 16 (pos 0) (λ i. temperatureAt p (w .«mosfets_from» + i)) (w .mosfets);
+}
+
+-- the lists of the fields that stand in the payload p from the place `at` to its end; where these are of the wrong shape, all is 0
+abbrev pub listsAt : List ℕ → ℕ → Lists
+listsAt p at = listsIn p (placesAt p at)
 
 -- all places 0
 abbrev pub noLists : Lists
@@ -83,18 +147,3 @@ noLists = record {
   sensors = replicate 16 (pos 0);
   mosfets = replicate 16 (pos 0);
 }
-
--- a payload of the wrong shape is 8
-abbrev pub wrongFields : Fields
-wrongFields = record { found = Refused (refusedWith shape); lists = noLists }
-
-abbrev pub ofShape : List ℕ → Shape → Fields
-ofShape q (Counted k) = record { found = Read (monitor3Of q k); lists = listsOf q k }
-ofShape q Wrong = wrongFields
-
-unfoldable pub fieldsOf : List ℕ → Fields
-fieldsOf q = ofShape q (shapeOf q)
-
--- the fields that stand in the payload p from the place `at` to its end
-unfoldable pub fieldsAt : List ℕ → ℕ → Fields
-fieldsAt p at = fieldsOf (drop at p)

@@ -11,7 +11,7 @@ ghost use Prim.Native.Nat.{_+_, _*_, _<_, _≤_};
 ghost use lib.ListN.{length, getD};
 ghost use lib.IntN.{pos};
 ghost use Rattle.monitor3_tongzhu.specs.Values.{numberAt, temperatureAt, statusAt, placesOf};
-ghost use Rattle.monitor3_tongzhu.specs.Layout.{Shaped, shapeOf, monitor3Of, listsOf, noLists, wrongFields, fieldsOf, fieldsAt};
+ghost use Rattle.monitor3_tongzhu.specs.Layout.{Shaped, Within, shapeOf, monitor3Of, foundOf, foundAt, nowhere, placesBy, placesAt, noLists, listsIn, listsAt};
 
 // The battery status (6.1.3.1), byte by byte.
 pub struct Status {
@@ -54,10 +54,16 @@ pub enum Found {
     Refused(Refusal),
 }
 
-// The fields of function 12 with their lists; after a refusal the lists are 0.
-pub struct Fields {
-    pub found: Found,
-    pub lists: Lists,
+// Where in a payload the lists of function 12 stand, and how many values each has; all 0 where the fields are of the wrong shape.
+pub struct Places {
+    pub cells_from: usize,
+    pub cells: usize,
+    pub balance_from: usize,
+    pub balance: usize,
+    pub sensors_from: usize,
+    pub sensors: usize,
+    pub mosfets_from: usize,
+    pub mosfets: usize,
 }
 
 // How many values each part of function 12 has, and how many bytes its balanced state has.
@@ -73,40 +79,80 @@ enum Shape {
     Wrong,
 }
 
-// Reads the fields of function 12 that take all of a payload from the place `at` on.
-pub fn read_fields(p: &[u8], at: usize) -> Fields
-    ensures { λ r. ⌜ r ≡ fieldsAt (now (p .entry)) at ⌝ }
+// Reads the numbers of the fields of function 12 that take all of a payload from the place `at` on.
+pub fn read_numbers(p: &[u8], at: usize) -> Found
+    ensures { λ r. ⌜ r ≡ foundAt (now (p .entry)) at ⌝ }
 {
     if p.len() < at {
-        return misshapen();
+        return Found::Refused(refuse(refusals::SHAPE));
     }
-    fields_of(&p[at..])
+    numbers_of(&p[at..])
 }
 
-fn misshapen() -> Fields
-    ensures { λ r. ⌜ r ≡ wrongFields ⌝ }
-{
-    let lists = no_lists();
-    Fields {
-        found: Found::Refused(refuse(refusals::SHAPE)),
-        lists,
-    }
-}
-
-// The fields of function 12 that are the whole of q.
-fn fields_of(q: &[u8]) -> Fields
-    ensures { λ r. ⌜ r ≡ fieldsOf (now (q .entry)) ⌝ }
+// The numbers of the fields that are the whole of q.
+fn numbers_of(q: &[u8]) -> Found
+    ensures { λ r. ⌜ r ≡ foundOf (now (q .entry)) ⌝ }
 {
     let shape = shape_of(q);
     match shape {
-        Shape::Counted(k) => {
-            let lists = lists_of(q, k);
-            Fields {
-                found: Found::Read(monitor3_of(q, k)),
-                lists,
-            }
-        }
-        Shape::Wrong => misshapen(),
+        Shape::Counted(k) => Found::Read(monitor3_of(q, k)),
+        Shape::Wrong => Found::Refused(refuse(refusals::SHAPE)),
+    }
+}
+
+// Reads their lists; where the fields are of the wrong shape, all are 0.
+pub fn read_lists(p: &[u8], at: usize) -> Lists
+    ensures { λ r. ⌜ r ≡ listsAt (now (p .entry)) at ⌝ }
+{
+    let w = find_lists(p, at);
+    lists_in(p, w)
+}
+
+// Says where their lists stand.
+pub fn find_lists(p: &[u8], at: usize) -> Places
+    ensures { λ r. ⌜ r ≡ placesAt (now (p .entry)) at ⌝ }
+{
+    if p.len() < at {
+        return no_places();
+    }
+    let shape = shape_of(&p[at..]);
+    match shape {
+        Shape::Counted(k) => places_by(at, k),
+        Shape::Wrong => no_places(),
+    }
+}
+
+fn no_places() -> Places
+    ensures { λ r. ⌜ r ≡ nowhere ⌝ }
+{
+    Places {
+        cells_from: 0,
+        cells: 0,
+        balance_from: 0,
+        balance: 0,
+        sensors_from: 0,
+        sensors: 0,
+        mosfets_from: 0,
+        mosfets: 0,
+    }
+}
+
+// The places by the counts.
+fn places_by(at: usize, k: Counts) -> Places
+    requires { ⌜ at + 9 + 2 * k .cells + k .flags + k .sensors ≤ 18446744073709551615 ⌝ }
+    ensures { λ r. ⌜ r ≡ placesBy at k ⌝ }
+{
+    let balance_from = at + 7 + 2 * k.cells;
+    let sensors_from = balance_from + k.flags + 1;
+    Places {
+        cells_from: at + 7,
+        cells: k.cells,
+        balance_from,
+        balance: k.flags,
+        sensors_from,
+        sensors: k.sensors,
+        mosfets_from: sensors_from + k.sensors + 1,
+        mosfets: k.mosfets,
     }
 }
 
@@ -160,15 +206,14 @@ fn monitor3_of(q: &[u8], k: Counts) -> Monitor3
     }
 }
 
-// The lists of function 12.
-fn lists_of(q: &[u8], k: Counts) -> Lists
-    requires { ⌜ Shaped (length (now q)) k ⌝ }
-    ensures { λ r. ⌜ r ≡ listsOf (now (q .entry)) k ⌝ }
+fn lists_in(p: &[u8], w: Places) -> Lists
+    requires { ⌜ Within (length (now p)) w ⌝ }
+    ensures { λ r. ⌜ r ≡ listsIn (now (p .entry)) w ⌝ }
 {
-    let cells = cells_of(q, 7, k.cells);
-    let balance = flags_of(q, 7 + 2 * k.cells, k.flags);
-    let sensors = temperatures_of(q, 8 + 2 * k.cells + k.flags, k.sensors);
-    let mosfets = temperatures_of(q, 9 + 2 * k.cells + k.flags + k.sensors, k.mosfets);
+    let cells = cells_of(p, w.cells_from, w.cells);
+    let balance = flags_of(p, w.balance_from, w.balance);
+    let sensors = temperatures_of(p, w.sensors_from, w.sensors);
+    let mosfets = temperatures_of(p, w.mosfets_from, w.mosfets);
     Lists {
         cells,
         balance,

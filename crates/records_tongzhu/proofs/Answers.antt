@@ -20,11 +20,13 @@ use Rattle.frames_tongzhu.specs.declared.Frame.the-variants.{Whole, Refused as 
 use Rattle.frames_tongzhu.specs.Reading.{frameOf}
 use Rattle.frames_tongzhu.proofs.Ladder.{payload-part}
 use Rattle.monitor3_tongzhu.specs.declared.Status.{Status}
+use Rattle.monitor3_tongzhu.specs.Layout.{noLists}
 use Rattle.monitor3_tongzhu.specs.Values.{numberAt, currentAt, temperatureAt, statusAt}
 use Rattle.records_tongzhu.specs.declared.Monitor2.{Monitor2}
 use Rattle.records_tongzhu.specs.declared.Answer.{Answer}
 use Rattle.records_tongzhu.specs.declared.Answer.the-variants as is
-use Rattle.records_tongzhu.specs.Replies.{alone, refusedAs, monitor2Of, sized, doneOf, payloadOf, listedAnswer, byKind, answerTo, ofFrame, replyOf}
+use Rattle.records_tongzhu.proofs.Answer.{the-type as answers}
+use Rattle.records_tongzhu.specs.Replies.{refusedAs, monitor2Of, sized, doneOf, payloadOf, listedAnswer, byKind, answerTo, listsBeside, withLists, ofFrame, replyOf}
 
 module _ (n : ℕ) (p : List ℕ) (a : Answer) where
   pub wrong-size : (length p ≡ n → ⊥) → is.Refused (refusedWith shape) ≡ sized n p a
@@ -74,7 +76,7 @@ module _ (asked f : ℕ) (p : List ℕ) (k : Kind) (e : k ≡ kindOf asked) wher
         go Sets h = refl
         go Unlisted h = absurd (⊎-elim (λ e. omega arith) (λ e. omega arith) h)
 
-    pub device-error : f ≡ 0 → length p ≡ 0 → alone is.DeviceError ≡ answerTo asked f p
+    pub device-error : f ≡ 0 → length p ≡ 0 → is.DeviceError ≡ answerTo asked f p
     device-error z h = simp (eq-eqb _ _ z, eq-eqb _ _ h) at in-list
 
     pub long-error : f ≡ 0 → (length p ≡ 0 → ⊥) → refusedAs shape ≡ answerTo asked f p
@@ -89,10 +91,23 @@ module _ (asked f : ℕ) (p : List ℕ) (k : Kind) (e : k ≡ kindOf asked) wher
 -- ---- from the frame to the reply
 
 module _ (asked : ℕ) (s : List ℕ) where
-  pub no-frame : (r : Refusal) → NoFrame r ≡ frameOf s → alone (is.Refused r) ≡ replyOf asked s
+  pub no-frame : (r : Refusal) → NoFrame r ≡ frameOf s → ofFrame asked s (NoFrame r) ≡ replyOf asked s
   unfolding replyOf
   no-frame r e = ap (ofFrame asked s) e
 
-  pub whole-frame : (f st n : ℕ) → Whole f st n ≡ frameOf s → answerTo asked f (take (st + n - st) (drop st s)) ≡ replyOf asked s
+  pub whole-frame : (f st n : ℕ) → Whole f st n ≡ frameOf s
+      → (let p = take (st + n - st) (drop st s) in withLists (answerTo asked f p) p) ≡ replyOf asked s
   unfolding replyOf
-  whole-frame f st n e = ap (answerTo asked f) (payload-part st n s) ∙ ap (ofFrame asked s) e
+  whole-frame f st n e = ap (λ (p : List ℕ). withLists (answerTo asked f p) p) (payload-part st n s) ∙ ap (ofFrame asked s) e
+
+-- an answer other than a monitor 3 has no lists
+pub no-lists-beside : (a : Answer) (p : List ℕ) → OneOf (0 ∷ 2 ∷ 3 ∷ 4 ∷ 5 ∷ 6 ∷ 7 ∷ []) (tagOf answers a) → noLists ≡ listsBeside a p
+no-lists-beside (is.Monitor2 m) p h = refl
+no-lists-beside (is.Monitor3 m) p h =
+    absurd (⊎-elim (λ e. omega arith) (⊎-elim (λ e. omega arith) (⊎-elim (λ e. omega arith) (⊎-elim (λ e. omega arith) (⊎-elim (λ e. omega arith) (⊎-elim (λ e. omega arith) (λ e. omega arith)))))) h)
+no-lists-beside (is.Status s) p h = refl
+no-lists-beside (is.Current v) p h = refl
+no-lists-beside is.Done p h = refl
+no-lists-beside is.NotDone p h = refl
+no-lists-beside is.DeviceError p h = refl
+no-lists-beside (is.Refused r) p h = refl

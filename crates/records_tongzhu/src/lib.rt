@@ -3,13 +3,13 @@ use frames_tongzhu::Frame;
 use frames_tongzhu::Kind;
 use frames_tongzhu::kind_of;
 use frames_tongzhu::read_frame;
-use monitor3_tongzhu::Fields;
 use monitor3_tongzhu::Found;
 use monitor3_tongzhu::Lists;
 use monitor3_tongzhu::Monitor3;
 use monitor3_tongzhu::Status;
 use monitor3_tongzhu::no_lists;
-use monitor3_tongzhu::read_fields;
+use monitor3_tongzhu::read_lists;
+use monitor3_tongzhu::read_numbers;
 use numbers::Order;
 use numbers::number16;
 use numbers::signed8;
@@ -19,8 +19,9 @@ use refusals::refuse;
 ghost use mathlib.Core.Path.{_≡_};
 ghost use Prim.Native.Nat.{_+_, _<_, _≤_};
 ghost use lib.ListN.{length, getD};
+ghost use Rattle.monitor3_tongzhu.specs.Layout.{foundAt};
 ghost use Rattle.monitor3_tongzhu.specs.Values.{numberAt, currentAt, statusAt};
-ghost use Rattle.records_tongzhu.specs.Replies.{alone, refusedAs, monitor2Of, ofFields, doneOf, sized, payloadOf, answerTo, replyOf};
+ghost use Rattle.records_tongzhu.specs.Replies.{refusedAs, monitor2Of, answerIn, doneOf, sized, payloadOf, answerTo, listsBeside, withLists, replyOf};
 
 // What function 11 tells (6.2.3).
 pub struct Monitor2 {
@@ -68,17 +69,41 @@ pub fn read_reply(asked: u8, s: &[u8]) -> Reply
 {
     let f = read_frame(s);
     match f {
-        Frame::Refused(r) => with_no_lists(Answer::Refused(r)),
+        Frame::Refused(r) => {
+            let lists = no_lists();
+            Reply {
+                answer: Answer::Refused(r),
+                lists,
+            }
+        }
         Frame::Whole {
             function,
             start,
             len,
-        } => answer_to(asked, function, &s[start..start + len]),
+        } => reply_to(asked, function, &s[start..start + len]),
     }
 }
 
+fn reply_to(asked: u8, function: u8, p: &[u8]) -> Reply
+    ensures { λ r. ⌜ r ≡ withLists (answerTo asked function (now (p .entry))) (now (p .entry)) ⌝ }
+{
+    let answer = answer_to(asked, function, p);
+    let lists = lists_beside(answer, p);
+    Reply { answer, lists }
+}
+
+// The lists that go with an answer.
+fn lists_beside(answer: Answer, p: &[u8]) -> Lists
+    ensures { λ r. ⌜ r ≡ listsBeside answer (now (p .entry)) ⌝ }
+{
+    if let Answer::Monitor3(_) = answer {
+        return read_lists(p, 0);
+    }
+    no_lists()
+}
+
 // The answer that a whole frame with this function and this payload is.
-fn answer_to(asked: u8, function: u8, p: &[u8]) -> Reply
+pub fn answer_to(asked: u8, function: u8, p: &[u8]) -> Answer
     ensures { λ r. ⌜ r ≡ answerTo asked function (now (p .entry)) ⌝ }
 {
     let k = kind_of(asked);
@@ -87,7 +112,7 @@ fn answer_to(asked: u8, function: u8, p: &[u8]) -> Reply
     }
     if function == 0 {
         if p.len() == 0 {
-            return with_no_lists(Answer::DeviceError);
+            return Answer::DeviceError;
         }
         return refused(refusals::SHAPE);
     }
@@ -98,47 +123,23 @@ fn answer_to(asked: u8, function: u8, p: &[u8]) -> Reply
 }
 
 // What the payload says, by the function.
-fn payload_of(function: u8, p: &[u8]) -> Reply
+fn payload_of(function: u8, p: &[u8]) -> Answer
     ensures { λ r. ⌜ r ≡ payloadOf function (now (p .entry)) ⌝ }
 {
     match function {
-        0x11 => with_no_lists(read_monitor2(p)),
-        0x12 => with_lists(read_fields(p, 0)),
-        0x14 => with_no_lists(read_status(p)),
-        0x15 => with_no_lists(read_current(p)),
-        0x30 => with_no_lists(read_done(p)),
+        0x11 => read_monitor2(p),
+        0x12 => read_monitor3(p),
+        0x14 => read_status(p),
+        0x15 => read_current(p),
+        0x30 => read_done(p),
         _ => refused(refusals::REQUEST),
     }
 }
 
-fn with_no_lists(answer: Answer) -> Reply
-    ensures { λ r. ⌜ r ≡ alone answer ⌝ }
-{
-    let lists = no_lists();
-    Reply { answer, lists }
-}
-
-fn with_lists(f: Fields) -> Reply
-    ensures { λ r. ⌜ r ≡ ofFields f ⌝ }
-{
-    let found = f.found;
-    let lists = f.lists;
-    match found {
-        Found::Read(m) => Reply {
-            answer: Answer::Monitor3(m),
-            lists,
-        },
-        Found::Refused(r) => Reply {
-            answer: Answer::Refused(r),
-            lists,
-        },
-    }
-}
-
-fn refused(number: u8) -> Reply
+fn refused(number: u8) -> Answer
     ensures { λ r. ⌜ r ≡ refusedAs number ⌝ }
 {
-    with_no_lists(Answer::Refused(refuse(number)))
+    Answer::Refused(refuse(number))
 }
 
 // Function 11.
@@ -167,6 +168,17 @@ fn monitor2_of(p: &[u8]) -> Monitor2
         remaining: number_at(p, 16),
         capacity: number_at(p, 18),
         switch: p[20],
+    }
+}
+
+// Function 12.
+fn read_monitor3(p: &[u8]) -> Answer
+    ensures { λ r. ⌜ r ≡ answerIn (foundAt (now (p .entry)) 0) ⌝ }
+{
+    let f = read_numbers(p, 0);
+    match f {
+        Found::Read(m) => Answer::Monitor3(m),
+        Found::Refused(r) => Answer::Refused(r),
     }
 }
 

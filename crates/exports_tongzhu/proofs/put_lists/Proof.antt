@@ -1,59 +1,136 @@
--- `exports_tongzhu::put_lists` meets its contract: each call places one list.
+-- `exports_tongzhu::put_lists` meets its contract: each call fills the places of one list, which is to place it.
 -- Assumes nothing.
-use mathlib.Core.Path.{ap, _∙_}
-use mathlib.Core.List.{map}
-use lib.IntN.{pos}
+use Prim.Native.Nat.{ℕ, _+_, _*_}
+use mathlib.Core.Path.{sym, ap, ap₂, _∙_}
+use mathlib.Core.List.{List}
+use borrow.Rule.Slice.PartMut.{putMid}
+use lib.IntN.{ℤ, pos}
+use lib.ListN.{length, getD}
+use Rattle.monitor3_tongzhu.proofs.Shapes.{places-within}
+use Rattle.monitor3_tongzhu.specs.declared.Places.{Places}
+use Rattle.monitor3_tongzhu.specs.Values.{numberAt, temperatureAt, placesOf}
+use Rattle.monitor3_tongzhu.specs.Layout.{Within, listsIn}
 use Rattle.exports_rows.specs.Told.{placed}
+use Rattle.exports_tongzhu.specs.Replies.{listed}
+use Rattle.exports_tongzhu.proofs.Filled.{map-places, part-room, part-filled}
 use borrow.Author.Needs.{needs}
 use Rattle.exports_tongzhu.proofs.put_lists.Statement.{statement}
 use Rattle.exports_tongzhu.proofs.put_lists.Tie as tie
 
-slice-aggregate-put-u16 : tie.Need-slice-aggregate-put-u16
-slice-aggregate-put-u16 c = search needs
+find-lists-requires : tie.Need-find-lists-requires
+find-lists-requires c κs = search needs
 
-put-u16-requires : tie.Need-put-u16-requires
-put-u16-requires c κs = search needs
+-- the places that were found lie within the payload
+lie : (c : tie.After-find-lists) → Within (length (c .before .before .args .p .now)) (c .find-lists .result)
+lie c = let p = c .before .before .args .p .now in rw (c .find-lists .ensures) (places-within p 0)
 
-slice-aggregate-put-u8 : tie.Need-slice-aggregate-put-u8
-slice-aggregate-put-u8 c = search needs
+-- the row after each list
+abbrev celled : tie.After-put-voltages → List ℤ
+celled c = putMid 12 32 (c .before .before .before .before .args .row .now) (c .put-voltages .last .1 .1 .1 .0)
 
-put-u8-requires : tie.Need-put-u8-requires
-put-u8-requires c κs = search needs
+abbrev flagged : tie.After-put-flags → List ℤ
+flagged c = putMid 44 4 (celled (c .before .before .before)) (c .put-flags .last .1 .1 .1 .0)
 
-slice-aggregate-put-i8 : tie.Need-slice-aggregate-put-i8
-slice-aggregate-put-i8 c = search needs
+abbrev sensed : tie.After-put-temperatures → List ℤ
+sensed c = putMid 48 16 (flagged (c .before .before .before)) (c .put-temperatures .last .1 .1 .1 .0)
 
-put-i8-requires : tie.Need-put-i8-requires
-put-i8-requires c κs = search needs
+sub-put-voltages : tie.Need-sub-put-voltages
+sub-put-voltages c = search needs
 
-slice-aggregate-put-i8-2 : tie.Need-slice-aggregate-put-i8-2
-slice-aggregate-put-i8-2 c = search needs
+part-put-voltages-start : tie.Need-part-put-voltages-start
+part-put-voltages-start c = search needs
 
-put-i8-requires-2 : tie.Need-put-i8-requires-2
-put-i8-requires-2 c κs = search needs
+part-put-voltages-end : tie.Need-part-put-voltages-end
+part-put-voltages-end c = search needs
+
+put-voltages-requires : tie.Need-put-voltages-requires
+put-voltages-requires c κs = let w = lie (c .before) in (part-room 12 32 _ (c .before .before .before .args .row .now) (w .few-cells) (part-put-voltages-end (c .before)), w .cells-lie)
+
+sub-put-flags : tie.Need-sub-put-flags
+sub-put-flags c = search needs
+
+part-put-flags-start : tie.Need-part-put-flags-start
+part-put-flags-start c = search needs
+
+part-put-flags-end : tie.Need-part-put-flags-end
+part-put-flags-end c = search needs
+
+put-flags-requires : tie.Need-put-flags-requires
+put-flags-requires c κs =
+    let w = lie (c .before .before .before .before) in (part-room 44 4 _ (celled (c .before .before)) (w .few-flags) (part-put-flags-end (c .before)), w .flags-lie)
+
+sub-put-temperatures : tie.Need-sub-put-temperatures
+sub-put-temperatures c = search needs
+
+part-put-temperatures-start : tie.Need-part-put-temperatures-start
+part-put-temperatures-start c = search needs
+
+part-put-temperatures-end : tie.Need-part-put-temperatures-end
+part-put-temperatures-end c = search needs
+
+put-temperatures-requires : tie.Need-put-temperatures-requires
+put-temperatures-requires c κs =
+    let w = lie (c .before .before .before .before .before .before .before) in
+    (part-room 48 16 _ (flagged (c .before .before)) (w .few-sensors) (part-put-temperatures-end (c .before)), w .sensors-lie)
+
+sub-put-temperatures-2 : tie.Need-sub-put-temperatures-2
+sub-put-temperatures-2 c = search needs
+
+part-put-temperatures-start-2 : tie.Need-part-put-temperatures-start-2
+part-put-temperatures-start-2 c = search needs
+
+part-put-temperatures-end-2 : tie.Need-part-put-temperatures-end-2
+part-put-temperatures-end-2 c = search needs
+
+put-temperatures-requires-2 : tie.Need-put-temperatures-requires-2
+put-temperatures-requires-2 c κs =
+    let w = lie (c .before .before .before .before .before .before .before .before .before .before) in
+    (part-room 64 16 _ (sensed (c .before .before)) (w .few-mosfets) (part-put-temperatures-end-2 (c .before)), w .mosfets-lie)
 
 same-length : tie.Need-same-length
 same-length c = search needs
 
 returns : tie.Need-returns
+unfolding listsIn
 returns c =
-    let l = c .before .before .before .before .before .before .before .before .before .before .before .before .before .before .before .before .before .before .before .before .args .lists in
-    c .before .put-i82 .ensures
-    ∙ ap (placed 64 (l .mosfets)) (c .before .before .before .before .before .put-i8 .ensures
-    ∙ ap (placed 48 (l .sensors)) (c .before .before .before .before .before .before .before .before .before .put-u8 .ensures
-    ∙ ap (placed 44 (map pos (l .balance))) (c .before .before .before .before .before .before .before .before .before .before .before .before .before .put-u16 .ensures)))
+    let four = c .before in
+    let three = four .before .before .before in
+    let two = three .before .before .before in
+    let one = two .before .before .before in
+    let found = one .before .before in
+    let a = found .before .before .args in
+    let w = found .find-lists .result in
+    let b = lie found in
+    part-filled 64 16 _ _ (pos 0) (λ (i : ℕ). temperatureAt (a .p .now) (w .«mosfets_from» + i)) (w .mosfets) (b .few-mosfets) (search needs) (four .put-temperatures2 .ensures)
+    ∙ ap (placed 64 (placesOf 16 (pos 0) (λ (i : ℕ). temperatureAt (a .p .now) (w .«mosfets_from» + i)) (w .mosfets))) (
+    part-filled 48 16 _ _ (pos 0) (λ (i : ℕ). temperatureAt (a .p .now) (w .«sensors_from» + i)) (w .sensors) (b .few-sensors) (search needs) (three .put-temperatures .ensures)
+    ∙ ap (placed 48 (placesOf 16 (pos 0) (λ (i : ℕ). temperatureAt (a .p .now) (w .«sensors_from» + i)) (w .sensors))) (
+    part-filled 44 4 _ _ (pos 0) (λ (i : ℕ). pos (getD (a .p .now) (w .«balance_from» + i) 0)) (w .balance) (b .few-flags) (search needs) (two .put-flags .ensures)
+    ∙ ap₂ (placed 44) (sym (map-places pos 4 0 (λ (i : ℕ). getD (a .p .now) (w .«balance_from» + i) 0) (w .balance))) (
+    part-filled 12 32 _ _ (pos 0) (λ (i : ℕ). pos (numberAt (a .p .now) (w .«cells_from» + 2 * i))) (w .cells) (b .few-cells) (search needs) (one .put-voltages .ensures)
+    ∙ ap (λ l. placed 12 l (a .row .now)) (sym (map-places pos 32 0 (λ (i : ℕ). numberAt (a .p .now) (w .«cells_from» + 2 * i)) (w .cells))))))
+    ∙ ap (λ (v : Places). listed (listsIn (a .p .now) v) (a .row .now)) (found .find-lists .ensures)
 
 pub put-lists-spec : {M : Type 1} → statement M
 put-lists-spec =
     tie.close
     (tie.spec
-    slice-aggregate-put-u16
-    put-u16-requires
-    slice-aggregate-put-u8
-    put-u8-requires
-    slice-aggregate-put-i8
-    put-i8-requires
-    slice-aggregate-put-i8-2
-    put-i8-requires-2
+    find-lists-requires
+    sub-put-voltages
+    part-put-voltages-start
+    part-put-voltages-end
+    put-voltages-requires
+    sub-put-flags
+    part-put-flags-start
+    part-put-flags-end
+    put-flags-requires
+    sub-put-temperatures
+    part-put-temperatures-start
+    part-put-temperatures-end
+    put-temperatures-requires
+    sub-put-temperatures-2
+    part-put-temperatures-start-2
+    part-put-temperatures-end-2
+    put-temperatures-requires-2
     same-length
     returns)

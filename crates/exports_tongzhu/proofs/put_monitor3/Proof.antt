@@ -3,6 +3,7 @@
 use mathlib.Core.Path.{ap, _∙_}
 use Rattle.exports_rows.specs.Told.{placed}
 use Rattle.exports_rows.proofs.Placing.{total, parts-told, parts-untold}
+use Rattle.monitor3_tongzhu.specs.Layout.{listsAt}
 use Rattle.exports_tongzhu.specs.Replies.{partsOf, sizes, listed}
 use Rattle.exports_tongzhu.proofs.Rows.{sized}
 use borrow.Author.Needs.{needs}
@@ -14,7 +15,9 @@ cast-result c = search needs
 
 returns : tie.Need-returns
 unfolding total
-returns c = let a = c .before .args in parts-untold 2 (partsOf (a .m) (a .lists)) sizes (sized (a .m) (a .lists) (search needs) (search needs) (search needs) (search needs)) (a .row .now) (search needs)
+returns c =
+    let a = c .before .before .args in
+    parts-untold 2 (partsOf (a .m) (listsAt (a .p .now) 0)) sizes (sized (a .m) (a .p .now)) (a .row .now) (search needs)
 
 monitor3-numbers-requires : tie.Need-monitor3-numbers-requires
 monitor3-numbers-requires c κs = search needs
@@ -37,11 +40,11 @@ same-length c = search needs
 returns-2 : tie.Need-returns-2
 unfolding total
 returns-2 c =
-    let a = c .before .before .before .before .before .before .before .before .before .before .args in
-    let told = parts-told 2 (partsOf (a .m) (a .lists)) sizes (sized (a .m) (a .lists) (search needs) (search needs) (search needs) (search needs)) (a .row .now) (search needs) in (
+    let a = c .before .before .before .before .before .before .before .before .before .before .before .args in
+    let told = parts-told 2 (partsOf (a .m) (listsAt (a .p .now) 0)) sizes (sized (a .m) (a .p .now)) (a .row .now) (search needs) in (
       c .coded .ensures ∙ told .0,
       c .before .before .put-lists .ensures
-          ∙ ap (listed (a .lists)) (c .before .before .before .before .before .put-i32 .ensures ∙ ap (λ ns. placed 0 ns (a .row .now)) (c .before .before .before .before .before .before .before .before .monitor3-numbers .ensures))
+          ∙ ap (listed (listsAt (a .p .now) 0)) (c .before .before .before .before .before .put-i32 .ensures ∙ ap (λ ns. placed 0 ns (a .row .now)) (c .before .before .before .before .before .before .before .before .monitor3-numbers .ensures))
           ∙ told .1,
     )
 

@@ -5,7 +5,7 @@ use mir.Syntax.{w16}
 use mir.Val.{toZ, ofZ}
 use Rattle.exports_rows.proofs.Same.{same}
 use Rattle.exports_rows.proofs.Telling.{told-numbers}
-use Rattle.exports_tongzhu.specs.Replies.{toldAs, toldOf}
+use Rattle.exports_tongzhu.specs.Replies.{toldIn}
 use borrow.Author.Needs.{needs}
 use Rattle.exports_tongzhu.proofs.tell.Statement.{statement}
 use Rattle.exports_tongzhu.proofs.tell.Tie as tie
@@ -83,7 +83,7 @@ returns : tie.Need-returns
 returns c =
     let a = c .before .before .before .before .before .before .before .before .before .args in
     let e = c .before .put-numbers .ensures in
-    told-numbers (toldOf (a .r)) (a .row .now) 0 (ap (λ x. toldAs x (a .r .lists)) (sym (c .before .before .before .before .before .before .answer .given .1))) (c .before .before .before .before .monitor2-numbers .ensures) (e .0) (e .1)
+    told-numbers (toldIn (a .answer) (a .p .now)) (a .row .now) 0 (ap (λ x. toldIn x (a .p .now)) (sym (c .before .before .before .before .before .before .answer .given .1))) (c .before .before .before .before .monitor2-numbers .ensures) (e .0) (e .1)
 
 same-length-2 : tie.Need-same-length-2
 same-length-2 c = search needs
@@ -92,7 +92,7 @@ returns-2 : tie.Need-returns-2
 returns-2 c =
     let a = c .before .before .before .before .before .before .before .args in
     let e = c .before .put-monitor3 .ensures in
-    told-numbers (toldOf (a .r)) (a .row .now) 0 (ap (λ x. toldAs x (a .r .lists)) (sym (c .before .before .before .before .answer2 .given .1))) refl (e .0) (e .1)
+    told-numbers (toldIn (a .answer) (a .p .now)) (a .row .now) 0 (ap (λ x. toldIn x (a .p .now)) (sym (c .before .before .before .before .answer2 .given .1))) refl (e .0) (e .1)
 
 same-length-3 : tie.Need-same-length-3
 same-length-3 c = search needs
@@ -101,7 +101,7 @@ returns-3 : tie.Need-returns-3
 returns-3 c =
     let a = c .before .before .before .before .before .before .before .before .before .args in
     let e = c .before .put-numbers2 .ensures in
-    told-numbers (toldOf (a .r)) (a .row .now) 0 (ap (λ x. toldAs x (a .r .lists)) (sym (c .before .before .before .before .before .before .answer3 .given .1))) (c .before .before .before .before .status-numbers .ensures) (e .0) (e .1)
+    told-numbers (toldIn (a .answer) (a .p .now)) (a .row .now) 0 (ap (λ x. toldIn x (a .p .now)) (sym (c .before .before .before .before .before .before .answer3 .given .1))) (c .before .before .before .before .status-numbers .ensures) (e .0) (e .1)
 
 same-length-4 : tie.Need-same-length-4
 same-length-4 c = search needs
@@ -112,7 +112,7 @@ returns-4 c =
     let held : toZ w16 (ofZ w16 v) ≡ v = search needs in
     let a = c .before .before .before .before .before .before .before .before .before .args in
     let e = c .before .put-numbers3 .ensures in
-    told-numbers (toldOf (a .r)) (a .row .now) 0 (ap (λ x. toldAs x (a .r .lists)) (sym (c .before .before .before .before .before .before .answer4 .given .1))) (same (c .before .before .before .before .signed-half .ok) (c .before .before .before .before .signed-half .ensures ∙ held) refl) (e .0) (e .1)
+    told-numbers (toldIn (a .answer) (a .p .now)) (a .row .now) 0 (ap (λ x. toldIn x (a .p .now)) (sym (c .before .before .before .before .before .before .answer4 .given .1))) (same (c .before .before .before .before .signed-half .ok) (c .before .before .before .before .signed-half .ensures ∙ held) refl) (e .0) (e .1)
 
 returns-5 : tie.Need-returns-5
 returns-5 c = search needs

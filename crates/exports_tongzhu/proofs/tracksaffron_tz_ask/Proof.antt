@@ -1,7 +1,7 @@
 -- `exports_tongzhu::tracksaffron_tz_ask` meets its contract: what the request writer answers and leaves, its answer as a number.
 -- Assumes nothing.
 use mathlib.Core.Path.{ap, _∙_}
-use Rattle.exports_tongzhu.specs.Requests.{writtenCode}
+use Rattle.exports_rows.specs.Writing.{writtenCode}
 use borrow.Author.Needs.{needs}
 use Rattle.exports_tongzhu.proofs.tracksaffron_tz_ask.Statement.{statement}
 use Rattle.exports_tongzhu.proofs.tracksaffron_tz_ask.Tie as tie

@@ -2,27 +2,27 @@
 -- Assumes nothing.
 use mathlib.Core.List.{List}
 use mathlib.Core.Path.{_≡_, sym, ap, _∙_}
-use Prim.Native.Nat.{ℕ, _-_}
+use Prim.Native.Nat.{ℕ, _+_, _-_, _%_}
 use native.Mathlib.Omega.{arith}
 use borrow.Author.Needs.{needs}
-use borrow.Author.Tests.{not-true, not-false}
+use borrow.Author.Tests.{eq-eqb, ne-eqb}
 use lib.ListN.{length, getD}
-use Rattle.checks.specs.Sums.{total, closes}
-use Rattle.frames_tongzhu.proofs.Ladder.{part-checked, too-short, wrong-mark, wrong-length, wrong-check, wrong-address, wrong-version, whole}
+use Rattle.checks.specs.Sums.{total}
+use Rattle.frames_tongzhu.proofs.Ladder.{all-summed, too-short, wrong-mark, wrong-length, wrong-check, wrong-address, wrong-version, whole}
 use Rattle.frames_tongzhu.specs.Reading.{checked, check}
 use Rattle.frames_tongzhu.specs.declared.Frame.the-variants.{Whole}
 use Rattle.frames_tongzhu.proofs.read_frame.Statement.{statement}
 use Rattle.frames_tongzhu.proofs.read_frame.Tie as tie
 
 -- the bytes, as they stand where their sum is known
-abbrev place : tie.After-closes256 → List ℕ
-place c = c .before .before .before .before .before .before .before .before .before .before .args .s .now
+abbrev place : tie.After-sum256 → List ℕ
+place c = c .before .before .before .before .before .before .before .before .args .s .now
 
-declared : (c : tie.After-closes256) → length (place c) ≡ getD (place c) 3 0
+declared : (c : tie.After-sum256) → length (place c) ≡ getD (place c) 3 0
 declared c = omega arith
 
-sums : (c : tie.After-closes256) → c .closes256 .result ≡ closes 256 (total (checked (place c))) (check (place c))
-sums c = c .closes256 .ensures ∙ ap (λ (l : List ℕ). closes 256 (total l) (check (place c))) (part-checked (place c))
+sums : (c : tie.After-sum256) → c .sum256 .result ≡ (total (checked (place c)) + check (place c)) % 256
+sums c = c .sum256 .ensures ∙ ap (λ (t : ℕ). t % 256) (all-summed (place c) (omega arith))
 
 refused-requires : tie.Need-refused-requires
 refused-requires c κs = search needs
@@ -56,20 +56,8 @@ returns-3 c =
 sub-last : tie.Need-sub-last
 sub-last c = search needs
 
-sub-closes256 : tie.Need-sub-closes256
-sub-closes256 c = search needs
-
-part-closes256-start : tie.Need-part-closes256-start
-part-closes256-start c = search needs
-
-part-closes256-end : tie.Need-part-closes256-end
-part-closes256-end c = search needs
-
-shared-slice-read-closes256 : tie.Need-shared-slice-read-closes256
-shared-slice-read-closes256 c = search needs
-
-closes256-requires : tie.Need-closes256-requires
-closes256-requires c κs = search needs
+sum256-requires : tie.Need-sum256-requires
+sum256-requires c κs = search needs
 
 refused-requires-4 : tie.Need-refused-requires-4
 refused-requires-4 c κs = search needs
@@ -78,7 +66,7 @@ returns-4 : tie.Need-returns-4
 returns-4 c =
     let closed = c .before .before in
     c .refused4 .ensures
-    ∙ wrong-check _ (search needs) (search needs) (declared closed) (sym (sums closed) ∙ not-true _ (c .before .if4 .taken))
+    ∙ wrong-check _ (search needs) (search needs) (declared closed) (ne-eqb _ _ (λ e. c .before .if4 .taken (sums closed ∙ e)))
 
 shared-slice-read-if5 : tie.Need-shared-slice-read-if5
 shared-slice-read-if5 c = search needs
@@ -91,7 +79,7 @@ returns-5 c =
     let closed = c .before .before .before .before in
     c .refused5 .ensures
     ∙ wrong-address _ (search needs) (search needs) (declared closed)
-    (sym (sums closed) ∙ not-false _ (c .before .before .before .if4 .left)) (search needs)
+    (eq-eqb _ _ (sym (sums closed) ∙ c .before .before .before .if4 .left)) (search needs)
 
 shared-slice-read-if6 : tie.Need-shared-slice-read-if6
 shared-slice-read-if6 c = search needs
@@ -104,7 +92,7 @@ returns-6 c =
     let closed = c .before .before .before .before .before .before in
     c .refused6 .ensures
     ∙ wrong-version _ (search needs) (search needs) (declared closed)
-    (sym (sums closed) ∙ not-false _ (c .before .before .before .before .before .if4 .left)) (search needs) (search needs)
+    (eq-eqb _ _ (sym (sums closed) ∙ c .before .before .before .before .before .if4 .left)) (search needs) (search needs)
 
 shared-slice-read-t7 : tie.Need-shared-slice-read-t7
 shared-slice-read-t7 c = search needs
@@ -119,7 +107,7 @@ returns-7 c =
     let e : length s - 1 - 5 ≡ length s - 6 = omega arith in
     ap (Whole (getD s 4 0) 5) e
     ∙ whole s (search needs) (search needs) (declared closed)
-    (sym (sums closed) ∙ not-false _ (c .before .before .before .before .before .if4 .left)) (search needs) (search needs)
+    (eq-eqb _ _ (sym (sums closed) ∙ c .before .before .before .before .before .if4 .left)) (search needs) (search needs)
 
 pub read-frame-spec : {M : Type 1} → statement M
 read-frame-spec =
@@ -135,11 +123,7 @@ read-frame-spec =
     refused-requires-3
     returns-3
     sub-last
-    sub-closes256
-    part-closes256-start
-    part-closes256-end
-    shared-slice-read-closes256
-    closes256-requires
+    sum256-requires
     refused-requires-4
     returns-4
     shared-slice-read-if5

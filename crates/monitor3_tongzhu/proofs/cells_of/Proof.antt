@@ -5,7 +5,7 @@ use Prim.Native.Nat.{ℕ, _+_, _-_, _*_, _≤_}
 use native.Mathlib.Omega.{arith}
 use borrow.Author.Needs.{needs}
 use Rattle.laws.specs.Firsts.{firsts}
-use Rattle.monitor3_tongzhu.proofs.Places.{one-placed}
+use Rattle.monitor3_tongzhu.proofs.Filled.{one-placed}
 use Rattle.monitor3_tongzhu.specs.Values.{numberAt, placesOf}
 use Rattle.monitor3_tongzhu.proofs.cells_of.Statement.{statement}
 use Rattle.monitor3_tongzhu.proofs.cells_of.Tie as tie

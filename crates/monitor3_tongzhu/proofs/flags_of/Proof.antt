@@ -6,7 +6,7 @@ use native.Mathlib.Omega.{arith}
 use borrow.Author.Needs.{needs}
 use lib.ListN.{getD}
 use Rattle.laws.specs.Firsts.{firsts}
-use Rattle.monitor3_tongzhu.proofs.Places.{one-placed}
+use Rattle.monitor3_tongzhu.proofs.Filled.{one-placed}
 use Rattle.monitor3_tongzhu.specs.Values.{placesOf}
 use Rattle.monitor3_tongzhu.proofs.flags_of.Statement.{statement}
 use Rattle.monitor3_tongzhu.proofs.flags_of.Tie as tie

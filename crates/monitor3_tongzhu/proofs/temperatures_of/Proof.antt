@@ -8,7 +8,7 @@ use lib.IntN.{pos}
 use mir.Syntax.{w8}
 use mir.Val.{toZ, ofZ}
 use Rattle.laws.specs.Firsts.{firsts}
-use Rattle.monitor3_tongzhu.proofs.Places.{one-placed}
+use Rattle.monitor3_tongzhu.proofs.Filled.{one-placed}
 use Rattle.monitor3_tongzhu.specs.Values.{temperatureAt, placesOf}
 use Rattle.monitor3_tongzhu.proofs.temperatures_of.Statement.{statement}
 use Rattle.monitor3_tongzhu.proofs.temperatures_of.Tie as tie

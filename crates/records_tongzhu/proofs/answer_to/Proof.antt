@@ -18,13 +18,10 @@ refused-requires c κs = search needs
 returns : tie.Need-returns
 returns c = c .refused .ensures ∙ not-listed _ _ _ _ (c .before .before .before .kind-of .ensures) (c .before .enum-told .given .1)
 
-with-no-lists-requires : tie.Need-with-no-lists-requires
-with-no-lists-requires c κs = search needs
-
 returns-2 : tie.Need-returns-2
 returns-2 c =
-    let k = c .before .before .before in
-    c .with-no-lists .ensures ∙ device-error _ _ _ _ (k .before .kind-of .ensures) (k .match .keys2) (search needs) (search needs)
+    let k = c .before .before in
+    device-error _ _ _ _ (k .before .kind-of .ensures) (k .match .keys2) (search needs) (search needs)
 
 refused-requires-2 : tie.Need-refused-requires-2
 refused-requires-2 c κs = search needs
@@ -58,7 +55,6 @@ answer-to-spec =
     enum-told
     refused-requires
     returns
-    with-no-lists-requires
     returns-2
     refused-requires-2
     returns-3

@@ -10,55 +10,40 @@ use Rattle.records_tongzhu.proofs.payload_of.Tie as tie
 read-monitor2-requires : tie.Need-read-monitor2-requires
 read-monitor2-requires c κs = search needs
 
-with-no-lists-requires : tie.Need-with-no-lists-requires
-with-no-lists-requires c κs = search needs
-
-read-fields-requires : tie.Need-read-fields-requires
-read-fields-requires c κs = search needs
-
-with-lists-requires : tie.Need-with-lists-requires
-with-lists-requires c κs = search needs
+read-monitor3-requires : tie.Need-read-monitor3-requires
+read-monitor3-requires c κs = search needs
 
 read-status-requires : tie.Need-read-status-requires
 read-status-requires c κs = search needs
 
-with-no-lists-requires-2 : tie.Need-with-no-lists-requires-2
-with-no-lists-requires-2 c κs = search needs
-
 read-current-requires : tie.Need-read-current-requires
 read-current-requires c κs = search needs
 
-with-no-lists-requires-3 : tie.Need-with-no-lists-requires-3
-with-no-lists-requires-3 c κs = search needs
-
 read-done-requires : tie.Need-read-done-requires
 read-done-requires c κs = search needs
-
-with-no-lists-requires-4 : tie.Need-with-no-lists-requires-4
-with-no-lists-requires-4 c κs = search needs
 
 refused-requires : tie.Need-refused-requires
 refused-requires c κs = search needs
 
 returns : tie.Need-returns
 unfolding payloadOf
-returns c = rw (c .before .before .match .keys1, c .with-no-lists .ensures, c .before .read-monitor2 .ensures)
+returns c = rw (c .before .match .keys1, c .read-monitor2 .ensures)
 
 returns-2 : tie.Need-returns-2
 unfolding payloadOf
-returns-2 c = rw (c .before .before .match .keys2, c .with-lists .ensures, c .before .read-fields .ensures)
+returns-2 c = rw (c .before .match .keys2, c .read-monitor3 .ensures)
 
 returns-3 : tie.Need-returns-3
 unfolding payloadOf
-returns-3 c = rw (c .before .before .match .keys3, c .with-no-lists2 .ensures, c .before .read-status .ensures)
+returns-3 c = rw (c .before .match .keys3, c .read-status .ensures)
 
 returns-4 : tie.Need-returns-4
 unfolding payloadOf
-returns-4 c = rw (c .before .before .match .keys4, c .with-no-lists3 .ensures, c .before .read-current .ensures)
+returns-4 c = rw (c .before .match .keys4, c .read-current .ensures)
 
 returns-5 : tie.Need-returns-5
 unfolding payloadOf
-returns-5 c = rw (c .before .before .match .keys5, c .with-no-lists4 .ensures, c .before .read-done .ensures)
+returns-5 c = rw (c .before .match .keys5, c .read-done .ensures)
 
 returns-6 : tie.Need-returns-6
 unfolding payloadOf
@@ -78,15 +63,10 @@ payload-of-spec =
     tie.close
     (tie.spec
     read-monitor2-requires
-    with-no-lists-requires
-    read-fields-requires
-    with-lists-requires
+    read-monitor3-requires
     read-status-requires
-    with-no-lists-requires-2
     read-current-requires
-    with-no-lists-requires-3
     read-done-requires
-    with-no-lists-requires-4
     refused-requires
     returns
     returns-2

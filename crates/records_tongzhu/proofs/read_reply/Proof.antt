@@ -26,34 +26,34 @@ read-frame-requires c κs = search needs
 enum-known-f : tie.Need-enum-known-f
 enum-known-f c = search needs
 
-with-no-lists-requires : tie.Need-with-no-lists-requires
-with-no-lists-requires c κs = search needs
+no-lists-requires : tie.Need-no-lists-requires
+no-lists-requires c κs = search needs
 
 enum-known-f-2 : tie.Need-enum-known-f-2
 enum-known-f-2 c = search needs
 
-add-answer-to : tie.Need-add-answer-to
-add-answer-to c = let d = whole-parts _ _ _ _ (is-frame c) in omega arith
+add-reply-to : tie.Need-add-reply-to
+add-reply-to c = let d = whole-parts _ _ _ _ (is-frame c) in omega arith
 
-sub-answer-to : tie.Need-sub-answer-to
-sub-answer-to c = search needs
+sub-reply-to : tie.Need-sub-reply-to
+sub-reply-to c = search needs
 
-part-answer-to-start : tie.Need-part-answer-to-start
-part-answer-to-start c = search needs
+part-reply-to-start : tie.Need-part-reply-to-start
+part-reply-to-start c = search needs
 
-part-answer-to-end : tie.Need-part-answer-to-end
-part-answer-to-end c = let d = whole-parts _ _ _ _ (is-frame c) in omega arith
+part-reply-to-end : tie.Need-part-reply-to-end
+part-reply-to-end c = let d = whole-parts _ _ _ _ (is-frame c) in omega arith
 
-answer-to-requires : tie.Need-answer-to-requires
-answer-to-requires c κs = search needs
+reply-to-requires : tie.Need-reply-to-requires
+reply-to-requires c κs = search needs
 
 returns : tie.Need-returns
 returns c =
-    c .with-no-lists .ensures
-    ∙ no-frame _ _ _ (sym (c .before .before .f .given .1) ∙ c .before .before .before .before .read-frame .ensures)
+    rw (c .no-lists .ensures)
+    (no-frame _ _ _ (sym (c .before .before .f .given .1) ∙ c .before .before .before .before .read-frame .ensures))
 
 returns-2 : tie.Need-returns-2
-returns-2 c = c .answer-to .ensures ∙ whole-frame _ _ _ _ _ (is-frame (c .before .before))
+returns-2 c = c .reply-to .ensures ∙ whole-frame _ _ _ _ _ (is-frame (c .before .before))
 
 pub read-reply-spec : {M : Type 1} → statement M
 read-reply-spec =
@@ -61,12 +61,12 @@ read-reply-spec =
     (tie.spec
     read-frame-requires
     enum-known-f
-    with-no-lists-requires
+    no-lists-requires
     enum-known-f-2
-    add-answer-to
-    sub-answer-to
-    part-answer-to-start
-    part-answer-to-end
-    answer-to-requires
+    add-reply-to
+    sub-reply-to
+    part-reply-to-start
+    part-reply-to-end
+    reply-to-requires
     returns
     returns-2)
