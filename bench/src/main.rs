@@ -80,21 +80,31 @@ fn pathfinder() {
 }
 
 fn tongzhu() {
-    // Monitor 3 with 32 cells, and with two sensors and one MOSFET sensor, as the example of 6.1.4.2 has.
+    // Monitor 3 with 32 cells and so many sensors and MOSFET sensors: none, those of the example of 6.1.4.2, some more, all.
+    for (sensors, mosfets) in [(0, 0), (2, 1), (4, 2), (8, 4), (16, 16)] {
+        let reply = monitor3(32, sensors, mosfets);
+        let (row, row2) = (RefCell::new([1i32; 80]), RefCell::new([2i32; 80]));
+        assert_eq!(plain::tz_read(0x12, &reply, &mut *row.borrow_mut()), Ok(plain::TzReply::Monitor3(80)));
+        assert_eq!(ours::tz_read(0x12, &reply, &mut *row2.borrow_mut()), (2 << 32) + 80);
+        assert_eq!(row, row2);
+        compare(
+            &format!("Tongzhu monitor 3 decoded, 32 cells, {sensors} and {mosfets} sensors"),
+            reply.len(),
+            || plain::tz_read(0x12, black_box(&reply), &mut *row.borrow_mut()),
+            || ours::tz_read(0x12, black_box(&reply), &mut *row2.borrow_mut()),
+        );
+    }
+}
+
+/// The reply to function 12 with so many cells, sensors and MOSFET sensors.
+fn monitor3(cells: usize, sensors: usize, mosfets: usize) -> Vec<u8> {
     let fixed = bytes(7, 5);
-    let payload = [&fixed[..6], &[32], &bytes(68, 13), &[2], &bytes(2, 17), &[1], &bytes(1, 19), &fixed].concat();
+    let listed = bytes(2 * cells + cells.div_ceil(8), 13);
+    let temperatures = [&[sensors as u8], &bytes(sensors, 17)[..], &[mosfets as u8], &bytes(mosfets, 19)].concat();
+    let payload = [&fixed[..6], &[cells as u8], &listed, &temperatures, &fixed].concat();
     let mut reply = [&[0x7F, 0x10, 0x02, payload.len() as u8 + 6, 0x12], &payload[..]].concat();
     reply.push(reply.iter().fold(0u8, |sum, &b| sum.wrapping_sub(b)));
-    let (row, row2) = (RefCell::new([1i32; 80]), RefCell::new([2i32; 80]));
-    assert_eq!(plain::tz_read(0x12, &reply, &mut *row.borrow_mut()), Ok(plain::TzReply::Monitor3(80)));
-    assert_eq!(ours::tz_read(0x12, &reply, &mut *row2.borrow_mut()), (2 << 32) + 80);
-    assert_eq!(row, row2);
-    compare(
-        "Tongzhu monitor 3 decoded, 32 cells",
-        reply.len(),
-        || plain::tz_read(0x12, black_box(&reply), &mut *row.borrow_mut()),
-        || ours::tz_read(0x12, black_box(&reply), &mut *row2.borrow_mut()),
-    );
+    reply
 }
 
 fn pace() {
