@@ -1,6 +1,6 @@
 -- The cases of `readingOf`, each from the facts that the reader has at that place.
 -- Assumes nothing.
-use mathlib.Core.Path.{_≡_, refl, sym, ap, _∙_}
+use mathlib.Core.Path.{_≡_}
 use mathlib.Core.Bool.{true}
 use mathlib.Core.List.{List, _++_}
 use Prim.Native.Nat.{ℕ, _+_, _-_, _*_, _≤_}
@@ -10,13 +10,12 @@ use lib.IntN.{ℤ, pos}
 use lib.ListN.{length, getD, take, drop, replicate}
 use Rattle.laws.proofs.Firsts.{firsts-front}
 use Rattle.characters_pace.specs.Characters.{wordAt, wordsAt}
-use Rattle.counts_pace.specs.declared.Counts.{Counts}
 use Rattle.counts_pace.specs.declared.Counts.the-variants.{Are, Wrong}
 use Rattle.counts_pace.specs.Counts.{countsOf}
 use Rattle.analog_pace.specs.declared.Analog.{Analog}
 use Rattle.analog_pace.specs.declared.Found.the-variants as found
 use Rattle.analog_pace.specs.declared.Reading.{Reading}
-use Rattle.analog_pace.specs.Analog.{tenthsAt, numbersOf, nothing, countedOf, readingOf}
+use Rattle.analog_pace.specs.Analog.{tenthsAt, numbersOf, nothing, readingOf}
 
 -- the array of cells before
 abbrev pub places : List ℕ

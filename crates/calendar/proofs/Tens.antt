@@ -3,7 +3,7 @@
 use mathlib.Core.Path.{_≡_, ap}
 use mathlib.Core.Bool.{Bool, true, false}
 use Prim.Native.Nat.{ℕ, _<_}
-use lib.Dec.{T, ltb, eqb, eqb→eq}
+use lib.Dec.{T, eqb, eqb→eq}
 use Rattle.laws.proofs.Below.{below, each}
 use Rattle.calendar.specs.declared.Bcd.{Bcd}
 use Rattle.calendar.specs.declared.Bcd.the-variants.{Is, Other}

@@ -1,7 +1,7 @@
 -- Bytes and the characters that carry them: where each byte stands, that written bytes are read back, and that read characters are written again.
 -- Each goes along the list two characters at a time, with the laws of one digit from the lower layer.
 -- Assumes nothing.
-use mathlib.Core.Path.{_≡_, refl, sym, ap, ap₂, _∙_}
+use mathlib.Core.Path.{_≡_, refl, sym, ap₂, _∙_}
 use mathlib.Core.Bool.{Bool, true, false, _&&_}
 use mathlib.Core.List.{List, [], _∷_, _++_, append-nil}
 use Prim.Native.Nat.{ℕ, zero, suc, _+_, _-_, _*_, _/_, _%_, _<_, _≤_}

@@ -1,7 +1,7 @@
 -- What closes a sum to zero, shown once for every modulus: `closing m t` closes it, and is the only number below m that does.
 -- Assumes nothing.
-use mathlib.Core.Path.{_≡_, refl, sym, ap, _∙_}
-use Prim.Native.Nat.{ℕ, _+_, _-_, _%_, _<_, _≤_}
+use mathlib.Core.Path.{_≡_, sym, ap, _∙_}
+use Prim.Native.Nat.{ℕ, _+_, _-_, _%_, _<_}
 use native.Mathlib.Nat.{add-comm, add-assoc, add-zero, zero-add, mod-lt, mod-self, mod-eq-of-lt, mod-add-mod, add-mod-mod, add-sub-of-le, le-of-lt}
 use native.Mathlib.Omega.{arith}
 use mathlib.Core.Bool.{true}

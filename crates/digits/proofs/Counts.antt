@@ -2,13 +2,12 @@
 -- Assumes nothing.
 use mathlib.Core.Path.{_≡_, refl, sym, ap, ap₂, _∙_}
 use mathlib.Core.Bool.{Bool, true, false}
-use Prim.Native.Nat.{ℕ, _+_, _-_, _*_, _/_, _%_, _<_}
+use Prim.Native.Nat.{ℕ, _+_, _*_, _/_, _%_, _<_}
 use native.Mathlib.Omega.{arith}
 use lib.Dec.{lit<}
 use Rattle.laws.specs.Choice.{pick}
 use Rattle.checks.specs.Sums.{closing, closes}
 use Rattle.checks.proofs.Closing.{closing-lt, test-closing, test-only}
-use Rattle.digits.specs.declared.Length.{Length}
 use Rattle.digits.specs.declared.Length.the-variants.{Is, Wrong}
 use Rattle.digits.specs.Lengths.{lowDigits, lengthWord, countOf}
 

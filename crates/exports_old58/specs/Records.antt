@@ -1,10 +1,8 @@
--- A record of the 58-byte monitor as a row of 32 numbers, in the order of the bytes (001). A number of 32 bits stands as its bits;
--- the largest that 001 has, five times three bytes, is below 2 ^ 31.
+-- A record of the 58-byte monitor as a row of 32 numbers, in the order of the bytes (001).
 -- Assumes nothing.
-use Prim.Native.Nat.{ℕ}
+use Prim.Native.Nat.{ℕ, _<_}
 use mathlib.Core.List.{List, [], _∷_}
 use lib.IntN.{ℤ, pos}
-use Rattle.numbers.specs.Signed.{signedOf}
 use Rattle.old58.specs.declared.Current.{Current}
 use Rattle.old58.specs.declared.Current.the-variants.{Milliamps, Missing}
 use Rattle.old58.specs.declared.Pack.{Pack}
@@ -16,9 +14,6 @@ use Rattle.old58.specs.declared.Record.{Record}
 use Rattle.old58.specs.declared.Reading.{Reading}
 use Rattle.old58.specs.declared.Reading.the-variants.{Whole, Refused}
 use Rattle.exports_rows.specs.Told.{Told, numbers, refused, joined}
-
-abbrev pub word : ℕ → ℤ
-word n = signedOf 31 n
 
 -- whether a current is there (1) or missing (0), and the current, 0 where it is missing
 abbrev pub known : Current → ℤ
@@ -32,24 +27,32 @@ milliamps Missing = pos 0
 -- places 0 to 6
 abbrev pub packNumbers : Pack → List ℤ
 packNumbers p =
-    word (p .«total_mv») ∷ known (p .«current_ma») ∷ milliamps (p .«current_ma») ∷ known (p .«current2_ma»)
+    pos (p .«total_mv») ∷ known (p .«current_ma») ∷ milliamps (p .«current_ma») ∷ known (p .«current2_ma»)
     ∷ milliamps (p .«current2_ma») ∷ known (p .«current3_ma») ∷ milliamps (p .«current3_ma») ∷ []
 
 -- places 7 to 14
 abbrev pub extremesNumbers : Extremes → List ℤ
 extremesNumbers e =
-    word (e .«lowest_mv») ∷ pos (e .«lowest_cell») ∷ word (e .«highest_mv») ∷ pos (e .«highest_cell») ∷ e .«coldest_c»
+    pos (e .«lowest_mv») ∷ pos (e .«lowest_cell») ∷ pos (e .«highest_mv») ∷ pos (e .«highest_cell») ∷ e .«coldest_c»
     ∷ pos (e .«coldest_cell») ∷ e .«hottest_c» ∷ pos (e .«hottest_cell») ∷ []
 
 -- places 15 to 19
 abbrev pub cellNumbers : Cell → List ℤ
-cellNumbers c = pos (c .cell) ∷ pos (c .cells) ∷ word (c .«cell_mv») ∷ c .«cell_c» ∷ pos (c .status) ∷ []
+cellNumbers c = pos (c .cell) ∷ pos (c .cells) ∷ pos (c .«cell_mv») ∷ c .«cell_c» ∷ pos (c .status) ∷ []
 
 -- places 20 to 25
 abbrev pub energyNumbers : Energy → List ℤ
 energyNumbers e =
-    word (e .«collected_today_wh») ∷ word (e .«stored_wh») ∷ word (e .«consumed_today_wh») ∷ pos (e .«soc_percent»)
-    ∷ word (e .«collected_kwh») ∷ word (e .«consumed_kwh») ∷ []
+    pos (e .«collected_today_wh») ∷ pos (e .«stored_wh») ∷ pos (e .«consumed_today_wh») ∷ pos (e .«soc_percent»)
+    ∷ pos (e .«collected_kwh») ∷ pos (e .«consumed_kwh») ∷ []
+
+-- energies that a row's number can hold
+pub record SmallEnergy (e : Energy) : Type 0 where
+  pub today : e .«collected_today_wh» < 2147483648
+  pub stored : e .«stored_wh» < 2147483648
+  pub used : e .«consumed_today_wh» < 2147483648
+  pub gathered : e .«collected_kwh» < 2147483648
+  pub consumed : e .«consumed_kwh» < 2147483648
 
 -- places 26 to 31
 abbrev pub setupNumbers : Setup → List ℤ

@@ -4,7 +4,6 @@ use exports_rows::byte;
 use exports_rows::coded;
 use exports_rows::half;
 use exports_rows::put_i32;
-use numbers::signed32;
 use old58::Cell;
 use old58::Current;
 use old58::Energy;
@@ -19,11 +18,13 @@ use old58::judge;
 use old58::pack_of;
 use old58::setup_of;
 ghost use mathlib.Core.Path.{_≡_};
+ghost use Prim.Native.Nat.{_<_};
+ghost use lib.IntN.{pos};
 ghost use lib.ListN.{length};
 ghost use Rattle.old58.specs.Read.{readingOf};
 ghost use Rattle.old58.specs.Record.{recordOf};
 ghost use Rattle.exports_rows.specs.Told.{codeOf, rowAfter, roomCode, over};
-ghost use Rattle.exports_old58.specs.Records.{known, milliamps, packNumbers, extremesNumbers, cellNumbers, energyNumbers, setupNumbers, allNumbers, toldOf};
+ghost use Rattle.exports_old58.specs.Records.{known, milliamps, packNumbers, extremesNumbers, cellNumbers, energyNumbers, setupNumbers, SmallEnergy, allNumbers, toldOf};
 
 // How many numbers a record has.
 const RECORD: usize = 32;
@@ -63,13 +64,14 @@ fn put_record(s: &[u8], row: &mut [i32]) -> u64
 }
 
 fn pack_numbers(p: Pack) -> [i32; 7]
+    requires { ⌜ p .«total_mv» < 2147483648 ⌝ }
     ensures { λ r. ⌜ r ≡ packNumbers p ⌝ }
 {
     let first = p.current_ma;
     let second = p.current2_ma;
     let third = p.current3_ma;
     [
-        signed32(p.total_mv),
+        word(p.total_mv),
         is_known(first),
         milliamps_of(first),
         is_known(second),
@@ -79,7 +81,15 @@ fn pack_numbers(p: Pack) -> [i32; 7]
     ]
 }
 
-// 1 where there is such a sensor, else 0.
+// A number of three bytes, or five times one, is below 2 to the 31.
+fn word(n: u32) -> i32
+    requires { ⌜ n < 2147483648 ⌝ }
+    ensures { λ r. ⌜ r ≡ pos n ⌝ }
+{
+    n as i32
+}
+
+// 1 where the current is known, 0 where it is missing.
 fn is_known(c: Current) -> i32
     ensures { λ r. ⌜ r ≡ known c ⌝ }
 {
@@ -100,12 +110,13 @@ fn milliamps_of(c: Current) -> i32
 }
 
 fn extremes_numbers(e: Extremes) -> [i32; 8]
+    requires { ⌜ (e .«lowest_mv» < 2147483648) × (e .«highest_mv» < 2147483648) ⌝ }
     ensures { λ r. ⌜ r ≡ extremesNumbers e ⌝ }
 {
     [
-        signed32(e.lowest_mv),
+        word(e.lowest_mv),
         byte(e.lowest_cell),
-        signed32(e.highest_mv),
+        word(e.highest_mv),
         byte(e.highest_cell),
         e.coldest_c,
         byte(e.coldest_cell),
@@ -115,27 +126,29 @@ fn extremes_numbers(e: Extremes) -> [i32; 8]
 }
 
 fn cell_numbers(k: Cell) -> [i32; 5]
+    requires { ⌜ k .«cell_mv» < 2147483648 ⌝ }
     ensures { λ r. ⌜ r ≡ cellNumbers k ⌝ }
 {
     [
         byte(k.cell),
         byte(k.cells),
-        signed32(k.cell_mv),
+        word(k.cell_mv),
         k.cell_c,
         byte(k.status),
     ]
 }
 
 fn energy_numbers(e: Energy) -> [i32; 6]
+    requires { ⌜ SmallEnergy e ⌝ }
     ensures { λ r. ⌜ r ≡ energyNumbers e ⌝ }
 {
     [
-        signed32(e.collected_today_wh),
-        signed32(e.stored_wh),
-        signed32(e.consumed_today_wh),
+        word(e.collected_today_wh),
+        word(e.stored_wh),
+        word(e.consumed_today_wh),
         byte(e.soc_percent),
-        signed32(e.collected_kwh),
-        signed32(e.consumed_kwh),
+        word(e.collected_kwh),
+        word(e.consumed_kwh),
     ]
 }
 

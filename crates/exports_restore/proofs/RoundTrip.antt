@@ -11,12 +11,12 @@ use lib.IntN.{ℤ}
 use lib.Signed.{mag}
 use lib.ListN.{length, getD, take, drop, length-append}
 use lib.Seq.{take-at, drop-at, getD-at, getD-append-add}
-use Rattle.records_pathfinder.specs.Words.{wordOf, wordAt, words}
+use Rattle.records_pathfinder.specs.Words.{wordOf, words}
 use Rattle.requests_pathfinder.proofs.RoundTrip.{value-reads-back}
 use Rattle.restore_pathfinder.specs.declared.Phase.{Phase}
 use Rattle.restore_pathfinder.specs.declared.Phase.the-variants.{Ready, Waiting, Stopped}
 use Rattle.restore_pathfinder.specs.declared.Job.{Job}
-use Rattle.exports_restore.specs.Jobs.{valueBytes, wordBytes, phaseByte, registerByte, phaseBytes, jobBytes, sized, isJob, phaseIn, jobOf}
+use Rattle.exports_restore.specs.Jobs.{wordBytes, phaseByte, registerByte, phaseBytes, jobBytes, isJob, phaseIn, jobOf}
 use Rattle.exports_restore.proofs.Bytes.{bytes-length}
 use Rattle.exports_restore.proofs.Held.{job-is}
 

@@ -2,13 +2,13 @@
 -- front longer (`next-part`). The library's `paste` is the loop's state. Assumes nothing.
 use mathlib.Core.Path.{_≡_, refl, sym, ap, ap₂, _∙_}
 use mathlib.Core.List.{List, [], _∷_, _++_, append-assoc, append-nil}
-use Prim.Native.Nat.{ℕ, suc, _+_, _-_, _≤_, _<_}
+use Prim.Native.Nat.{ℕ, _+_, _≤_, _<_}
 use native.Mathlib.Numerals.{add-one}
 use native.Mathlib.Omega.{arith}
 use borrow.Author.Tests.{le-leb, lt-leb, lt-ltb, le-ltb}
 use lib.IntN.{ℤ}
 use lib.ListN.{length, getD, take, drop, set, length-append, length-drop}
-use lib.Seq.{drop-append-add, paste, paste-suc, take-all, take-at, drop-at, drop-drop}
+use lib.Seq.{drop-append-add, paste, paste-suc, take-all, take-at, drop-drop}
 use Rattle.refusals.specs.Refused.{room}
 use Rattle.exports_rows.specs.Told.{codedAs, roomCode, over, placed, behind, joined}
 

@@ -1,12 +1,11 @@
 -- A frame's characters piece by piece: mark, header (12), INFO, CHKSUM (4), mark. What the reader cuts out of such a list are the pieces,
 -- and every list of 18 characters or more is one.
 -- Assumes nothing.
-use mathlib.Core.Path.{_≡_, refl, sym, ap, ap₂, _∙_}
+use mathlib.Core.Path.{_≡_, refl, sym, ap, _∙_}
 use mathlib.Core.List.{List, [], _∷_, _++_, append-assoc}
-use Prim.Native.Nat.{ℕ, suc, _+_, _-_, _<_, _≤_}
-use native.Mathlib.Numerals.{add-one}
+use Prim.Native.Nat.{ℕ, suc, _+_, _-_, _≤_}
 use native.Mathlib.Omega.{arith}
-use lib.ListN.{length, getD, take, drop, length-append, length-take, length-drop, take-append-drop, drop-of-length-le}
+use lib.ListN.{length, getD, take, drop, length-append, length-drop, take-append-drop, drop-of-length-le}
 use lib.Seq.{take-at, drop-at, getD-at, drop-drop, drop-cons, length-take-le}
 use Rattle.characters_pace.specs.Characters.{bytesIn, wordAt}
 use Rattle.frames_pace.specs.Frame.{innerOf, headOf, coveredOf, checkOf, infoOf}

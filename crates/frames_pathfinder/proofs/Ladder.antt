@@ -1,21 +1,18 @@
 -- The ways out of `frameOf`, each from the facts that the reader has there, and what a whole frame says of its bytes.
 -- Each way rewrites the ladder with its tests; the inversion goes down the ladder past each refusal. Assumes nothing.
-use mathlib.Core.Path.{_≡_, refl, sym, ap, _∙_}
-use mathlib.Core.Bool.{true, false}
+use mathlib.Core.Path.{_≡_}
 use mathlib.Core.List.{List, [], _∷_}
 use Prim.Native.Nat.{ℕ, _+_, _-_, _<_, _≤_}
 use native.Mathlib.Omega.{arith}
 use borrow.Author.Tests.{lt-ltb, le-ltb, eq-eqb, ne-eqb, ltb-false, eqb-true}
 use lib.Dec.{ltb, eqb}
 use lib.ListN.{length, getD, take, drop}
-use Rattle.laws.specs.Choice.{pick}
 use Rattle.laws.proofs.Ladders.{past, into}
 use Rattle.refusals.specs.declared.Refusal.{Refusal}
 use Rattle.refusals.specs.Refused.{refusedWith, short, firstMark, lengths, lastMark, checksum}
 use Rattle.checks.specs.Crc.{crcOf}
 use Rattle.numbers.specs.declared.Order.the-variants.{HighFirst}
 use Rattle.numbers.specs.Bytes.{numberOf}
-use Rattle.frames_pathfinder.specs.declared.Frame.{Frame}
 use Rattle.frames_pathfinder.specs.declared.Frame.the-variants.{Whole, Refused}
 use Rattle.frames_pathfinder.specs.Reading.{declared, covered, given, frameOf}
 

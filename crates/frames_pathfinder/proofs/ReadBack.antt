@@ -3,7 +3,7 @@
 -- Assumes nothing.
 use mathlib.Core.Path.{_≡_, refl, sym, ap, ap₂, _∙_}
 use mathlib.Core.List.{List, [], _∷_, _++_}
-use Prim.Native.Nat.{ℕ, suc, _+_, _-_, _*_, _/_, _%_, _<_, _≤_}
+use Prim.Native.Nat.{ℕ, suc, _+_, _-_, _*_, _/_, _%_, _<_}
 use native.Mathlib.Nat.{add-zero}
 use native.Mathlib.Omega.{arith}
 use lib.ListN.{length, getD, take, drop, length-append, length-drop, take-append-drop}
@@ -14,7 +14,7 @@ use Rattle.checks.specs.Crc.{crcOf}
 use Rattle.frames_pathfinder.specs.declared.Frame.the-variants.{Whole}
 use Rattle.frames_pathfinder.specs.Reading.{frameOf}
 use Rattle.frames_pathfinder.specs.Writing.{headOf, coveredOf, endOf, frameBytes}
-use Rattle.frames_pathfinder.proofs.Ladder.{whole, Parts, whole-parts}
+use Rattle.frames_pathfinder.proofs.Ladder.{whole, whole-parts}
 
 pub frame-reads-back : (op : ℕ) (load : List ℕ) → Whole op 3 (length load) ≡ frameOf (frameBytes op load)
 unfolding frameBytes

@@ -1,13 +1,13 @@
 -- What `begin` and `seal` leave in the lent room, and that around its data the two make a frame.
 -- A run of stores is a list put in place of the front; a part that was lent comes back between what was before and after it. Assumes nothing.
-use mathlib.Core.Path.{_≡_, refl, sym, ap, ap₂, _∙_}
+use mathlib.Core.Path.{_≡_, sym, ap, _∙_}
 use mathlib.Core.Bool.{true}
-use mathlib.Core.List.{List, [], _∷_, _++_, append-assoc, append-nil}
+use mathlib.Core.List.{List, _∷_, _++_, append-assoc, append-nil}
 use Prim.Native.Nat.{ℕ, _+_, _-_, _≤_}
 use native.Mathlib.Omega.{arith}
 use borrow.Rule.Slice.PartMut.{putMid}
 use lib.ListN.{length, take, drop, set, length-append, length-drop}
-use lib.Seq.{sets, sets-eq, take-at, drop-at, drop-append-add, drop-drop, drop-length}
+use lib.Seq.{sets, sets-eq, take-at, drop-append-add, drop-drop, drop-length}
 use Rattle.laws.proofs.Fitting.{fitting}
 use Rattle.checks.specs.Crc.{crcOf}
 use Rattle.frames_pathfinder.specs.Writing.{headOf, coveredOf, endOf, frameBytes, fits, begun, sealed}

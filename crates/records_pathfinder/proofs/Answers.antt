@@ -1,13 +1,11 @@
 -- The ways out of the reply's rules, each from the facts that the code has there; and what an answer says of the data and the room.
 -- Assumes nothing.
-use mathlib.Core.Path.{_≡_, refl, sym, ap, _∙_}
-use mathlib.Core.Bool.{Bool, true, false}
+use mathlib.Core.Path.{_≡_, refl, sym, ap}
 use mathlib.Core.List.{List}
-use Prim.Native.Nat.{ℕ, _+_, _*_, _/_, _%_, _<_, _≤_}
+use Prim.Native.Nat.{ℕ, _*_, _<_, _≤_}
 use native.Mathlib.Omega.{arith}
 use borrow.Author.Tests.{lt-ltb, le-ltb, eq-eqb, ne-eqb, ltb-false, eqb-true}
 use lib.Dec.{ltb, eqb}
-use Rattle.laws.specs.Choice.{pick}
 use Rattle.laws.proofs.Ladders.{past, into}
 use Rattle.refusals.specs.declared.Refusal.{Refusal}
 use Rattle.refusals.specs.Refused.{refusedWith, request, shape, room}
@@ -18,7 +16,7 @@ use Rattle.records_pathfinder.specs.declared.Kind.the-variants.{Failure 
 use Rattle.records_pathfinder.specs.declared.Shape.{Shape}
 use Rattle.records_pathfinder.specs.declared.Shape.the-variants.{Words as HasWords, Name as HasName, Nothing, Unlisted}
 use Rattle.records_pathfinder.specs.declared.Reply.{Reply}
-use Rattle.records_pathfinder.specs.declared.Reply.the-variants.{Words, Name, Written, Failure, Refused}
+use Rattle.records_pathfinder.specs.declared.Reply.the-variants.{Words, Name, Failure, Refused}
 use Rattle.records_pathfinder.specs.Replies.{kindOf, shapeOf, wordsJudged, shaped, byKind, byShape, judged, ofFrame, replyOf}
 
 -- ---- words

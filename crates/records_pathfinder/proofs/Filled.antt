@@ -11,7 +11,7 @@ use lib.Seq.{length-take-le, take-length}
 use Rattle.laws.proofs.Filling.{one-more}
 use Rattle.frames_pathfinder.specs.declared.Frame.the-variants.{Whole}
 use Rattle.frames_pathfinder.specs.Reading.{frameOf}
-use Rattle.frames_pathfinder.proofs.Ladder.{Parts, whole-parts}
+use Rattle.frames_pathfinder.proofs.Ladder.{whole-parts}
 use Rattle.records_pathfinder.specs.Words.{wordAt, words}
 use Rattle.records_pathfinder.specs.Replies.{payloadOf}
 

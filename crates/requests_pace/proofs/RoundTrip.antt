@@ -1,9 +1,9 @@
 -- The two ways round: a request that was written is read back, and a frame that is read as a request is the very frame that the writer writes for it.
 -- Each puts together the frame's round trip and, where there are values, that of the setting's row. Assumes nothing.
 use mathlib.Core.Path.{_≡_, refl, sym, ap, _∙_, subst}
-use mathlib.Core.Bool.{Bool, true, false, _&&_}
+use mathlib.Core.Bool.{true, _&&_}
 use mathlib.Core.List.{List, [], _∷_, _++_}
-use Prim.Native.Nat.{ℕ, _+_, _-_, _*_, _/_, _%_, _<_, _≤_}
+use Prim.Native.Nat.{ℕ, _+_, _*_, _/_, _%_, _<_, _≤_}
 use native.Mathlib.Omega.{arith}
 use borrow.Author.Tests.{eqb-true}
 use lib.Dec.{lit≤, eqb}
@@ -36,12 +36,11 @@ use Rattle.rows_pace.proofs.Commands.{writes-itself, writes-small, writes-only}
 use Rattle.settings_pace.specs.declared.Found.{Found}
 use Rattle.settings_pace.specs.declared.Found.the-variants as setting
 use Rattle.settings_pace.specs.Reading as settings
-use Rattle.settings_pace.proofs.RoundTrip.{Again, info-bytes, info-short, values-read-back, values-write-back}
+use Rattle.settings_pace.proofs.RoundTrip.{info-bytes, info-short, values-read-back, values-write-back}
 use Rattle.requests_pace.specs.declared.Kind.{Kind}
 use Rattle.requests_pace.specs.declared.Kind.the-variants.{Addressed, Bare, Carries, Unlisted}
 use Rattle.requests_pace.specs.declared.Request.{Request}
 use Rattle.requests_pace.specs.declared.Request.the-variants.{Ask, Set}
-use Rattle.requests_pace.specs.declared.Parsed.{Parsed}
 use Rattle.requests_pace.specs.declared.Parsed.the-variants.{Is, Refused as NoRequest}
 use Rattle.requests_pace.specs.Request.{kindOf, addressOf, codeOf, askInfo, infoOf, charsOf, askOf, writtenOf, roomAfter}
 use Rattle.requests_pace.specs.Parsed.{ofFound, ofKind, wholeOf, ofFrame, parsedOf}

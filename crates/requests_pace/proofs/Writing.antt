@@ -1,7 +1,7 @@
 -- The cases of `writtenOf` and `roomAfter`, each from the facts that the writer has at that place.
 -- Assumes nothing.
 use mathlib.Core.Path.{_≡_, refl, sym, ap, ap₂, _∙_}
-use mathlib.Core.Bool.{Bool, true, false}
+use mathlib.Core.Bool.{true, false}
 use mathlib.Core.List.{List, _++_}
 use Prim.Native.Nat.{ℕ, _-_, _≤_}
 use native.Mathlib.Omega.{arith}
@@ -15,7 +15,7 @@ use Rattle.frames_pace.specs.Written as frames
 use Rattle.rows_pace.specs.declared.Info.{Info}
 use Rattle.rows_pace.specs.declared.Values.{Values}
 use Rattle.rows_pace.specs.Commands.{commandOf}
-use Rattle.rows_pace.specs.Rows.{rowOf, settingOf, allowedOf}
+use Rattle.rows_pace.specs.Rows.{allowedOf}
 use Rattle.rows_pace.specs.Info as rows
 use Rattle.requests_pace.specs.declared.Kind.{Kind}
 use Rattle.requests_pace.specs.declared.Request.{Request}

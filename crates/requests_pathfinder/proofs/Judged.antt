@@ -1,11 +1,11 @@
 -- The ways out of the rules for writing and reading a request, each from the facts that the code has there.
 -- Assumes nothing.
-use mathlib.Core.Path.{_≡_, refl, sym, ap, _∙_}
+use mathlib.Core.Path.{_≡_, sym, ap}
 use mathlib.Core.Bool.{true, false}
-use mathlib.Core.List.{List, [], _∷_}
+use mathlib.Core.List.{List}
 use Prim.Native.Nat.{ℕ, _<_, _≤_}
 use native.Mathlib.Omega.{arith}
-use borrow.Author.Tests.{lt-ltb, le-ltb, le-leb, lt-leb, eq-eqb, ne-eqb}
+use borrow.Author.Tests.{le-leb, lt-leb, eq-eqb, ne-eqb}
 use lib.Dec.{ltb}
 use lib.IntN.{ℤ}
 use lib.ListN.{length, getD}
@@ -21,7 +21,7 @@ use Rattle.requests_pathfinder.specs.declared.Request.{Request}
 use Rattle.requests_pathfinder.specs.declared.Request.the-variants.{Ask, Write}
 use Rattle.requests_pathfinder.specs.declared.Parsed.the-variants.{Is, Refused}
 use Rattle.requests_pathfinder.specs.Requests.{faultOf, writtenAs, sentAs}
-use Rattle.requests_pathfinder.specs.Reading.{parsedSet, parsedOf, ofFrame, requestOf}
+use Rattle.requests_pathfinder.specs.Reading.{parsedSet, parsedOf, requestOf}
 
 -- ---- faults of a request
 

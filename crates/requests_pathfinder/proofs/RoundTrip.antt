@@ -3,7 +3,7 @@
 use mathlib.Core.Path.{_≡_, refl, sym, ap, ap₂, _∙_}
 use mathlib.Core.Bool.{Bool, true, false}
 use mathlib.Core.List.{List, [], _∷_}
-use Prim.Native.Nat.{ℕ, zero, suc, _+_, _-_, _*_, _<_, _≤_, _^_}
+use Prim.Native.Nat.{ℕ, zero, suc, _+_, _-_, _<_, _≤_, _^_}
 use native.Mathlib.Omega.{arith}
 use borrow.Author.Tests.{leb-true, eqb-true}
 use lib.Dec.{ltb, leb, eqb}
@@ -13,11 +13,11 @@ use lib.Signed.{mag}
 use Rattle.laws.specs.Choice.{pick}
 use Rattle.laws.proofs.Entries.{entries}
 use Rattle.laws.proofs.Fronts.{front}
-use Rattle.laws.proofs.Ladders.{past, into, both}
+use Rattle.laws.proofs.Ladders.{into, both}
 use Rattle.refusals.specs.declared.Refusal.{Refusal}
 use Rattle.refusals.specs.Refused.{refusedWith, shape, request, range, register}
 use Rattle.numbers.specs.declared.Order.the-variants.{LowFirst}
-use Rattle.numbers.specs.Bytes.{lowFirst, numberOf, bytesOf}
+use Rattle.numbers.specs.Bytes.{numberOf, bytesOf}
 use Rattle.numbers.specs.Signed.{signedOf, bitsOf}
 use Rattle.numbers.proofs.Orders.{Bytes, written-reads-back, read-writes-back}
 use Rattle.numbers.proofs.Signs.{bits-read-back, signed-written-back}
@@ -25,16 +25,14 @@ use Rattle.frames_pathfinder.specs.declared.Frame.{Frame}
 use Rattle.frames_pathfinder.specs.declared.Frame.the-variants.{Whole, Refused as NoFrame}
 use Rattle.frames_pathfinder.specs.Reading.{frameOf}
 use Rattle.frames_pathfinder.specs.Writing.{frameBytes}
-use Rattle.frames_pathfinder.proofs.Ladder.{Parts, whole-parts}
+use Rattle.frames_pathfinder.proofs.Ladder.{whole-parts}
 use Rattle.frames_pathfinder.proofs.ReadBack.{frame-reads-back, frame-writes-back, payload-back}
 use Rattle.frames_pathfinder.proofs.Writers.{frame-length}
 use Rattle.registers_pathfinder.specs.Registers.{count, inRange}
 use Rattle.records_pathfinder.specs.Words.{wordOf}
 use Rattle.records_pathfinder.specs.Replies.{payloadOf}
-use Rattle.records_pathfinder.proofs.Filled.{payload-length}
 use Rattle.requests_pathfinder.specs.declared.Request.{Request}
 use Rattle.requests_pathfinder.specs.declared.Request.the-variants.{Ask, Write}
-use Rattle.requests_pathfinder.specs.declared.Parsed.{Parsed}
 use Rattle.requests_pathfinder.specs.declared.Parsed.the-variants.{Is, Refused}
 use Rattle.requests_pathfinder.specs.Requests.{asks, opcodeOf, setLoad, loadOf, frameFor, faultOf}
 use Rattle.requests_pathfinder.specs.Reading.{parsedSet, parsedOf, ofFrame, requestOf}

@@ -9,8 +9,7 @@ use borrow.Author.Tests.{eqb-true}
 use lib.Dec.{lit<, eqb}
 use Rattle.laws.specs.Choice.{pick}
 use Rattle.laws.proofs.Ladders.{past}
-use Rattle.rows_pace.specs.declared.Command.{Command}
-use Rattle.rows_pace.specs.declared.Command.the-variants.{Analog, Warnings, Hardware, Serial, Reads, Writes, Unlisted}
+use Rattle.rows_pace.specs.declared.Command.the-variants.{Analog, Warnings, Hardware, Serial, Reads, Writes}
 use Rattle.rows_pace.specs.declared.Setting.{Setting}
 use Rattle.rows_pace.specs.declared.Setting.the-variants.{Overvoltage, Discharge}
 use Rattle.rows_pace.specs.Rows.{settings, rowOf}

@@ -7,7 +7,7 @@ use Prim.Native.Nat.{ℕ, _+_, _-_, _*_, _/_, _%_, _<_, _≤_}
 use native.Mathlib.Omega.{arith}
 use borrow.Rule.Slice.PartMut.{putMid}
 use lib.Dec.{lit<}
-use lib.ListN.{length, getD, take, drop, set, replicate, length-append}
+use lib.ListN.{length, take, drop, set, replicate, length-append}
 use Rattle.laws.proofs.Filling.{one-more, part-more, front-taken}
 use Rattle.characters_pace.specs.Characters.{allOf}
 use Rattle.characters_pace.proofs.Halves.{halves-length}

@@ -1,12 +1,12 @@
 -- Signed numbers that were widened or multiplied, said of the numbers themselves: a variable holds a number's bits, and they read back.
 -- Each law is over the width that the number had. Assumes nothing.
-use mathlib.Core.Path.{_≡_, refl, sym, ap, _∙_}
-use Prim.Native.Nat.{ℕ, zero, suc, _+_, _*_, _<_, _≤_, _^_}
+use mathlib.Core.Path.{_≡_, ap, _∙_}
+use Prim.Native.Nat.{ℕ, zero, suc, _*_, _<_}
 use native.Mathlib.Omega.{arith}
 use lib.IntN.{ℤ, pos, negsuc, negℤ, _*ℤ_}
 use lib.Signed.{mag}
-use mir.Syntax.{Width, w16, w32, w64}
-use mir.Val.{SFits, toZ, ofZ, hbits}
+use mir.Syntax.{Width, w16, w32}
+use mir.Val.{SFits, toZ, ofZ}
 use mir.ValLaws.{toZ-ofZ}
 
 -- a number of w bits in a wider variable

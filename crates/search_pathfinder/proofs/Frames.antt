@@ -17,7 +17,7 @@ use Rattle.numbers.specs.Bytes.{numberOf}
 use Rattle.frames_pathfinder.specs.declared.Frame.{Frame}
 use Rattle.frames_pathfinder.specs.declared.Frame.the-variants.{Whole, Refused}
 use Rattle.frames_pathfinder.specs.Reading.{frameOf}
-use Rattle.frames_pathfinder.proofs.Ladder.{whole, Parts, whole-parts}
+use Rattle.frames_pathfinder.proofs.Ladder.{whole, whole-parts}
 use Rattle.search_pathfinder.specs.Places.{isWhole, sizeAt, partAt, frameAt, spanOf, agrees}
 use Rattle.search_pathfinder.proofs.Spans.{a-span}
 

@@ -4,19 +4,17 @@ use mathlib.Core.Path.{_≡_, refl, sym, ap, _∙_}
 use mathlib.Core.Logic.{⊎-elim}
 use mathlib.Core.Bool.{Bool, true, false}
 use mathlib.Core.List.{List}
-use Prim.Native.Nat.{ℕ, zero, suc, _+_, _-_, _<_, _≤_}
+use Prim.Native.Nat.{ℕ, zero, suc, _+_, _<_, _≤_}
 use native.Mathlib.Nat.{eq-or-lt-of-le}
 use native.Mathlib.Omega.{arith}
 use lib.ListN.{length, getD, take, drop, length-drop}
 use lib.Seq.{getD-take, getD-drop, length-take-le}
 use Rattle.laws.specs.Choice.{pick}
-use Rattle.frames_pathfinder.specs.declared.Frame.{Frame}
 use Rattle.frames_pathfinder.specs.declared.Frame.the-variants.{Whole}
 use Rattle.frames_pathfinder.specs.Reading.{frameOf}
-use Rattle.frames_pathfinder.proofs.Ladder.{Parts, whole-parts}
-use Rattle.search_pathfinder.specs.declared.Found.{Found}
+use Rattle.frames_pathfinder.proofs.Ladder.{whole-parts}
 use Rattle.search_pathfinder.specs.declared.Found.the-variants.{At, Nothing}
-use Rattle.search_pathfinder.specs.Places.{isWhole, sizeAt, partAt, frameAt, scan, searchOf}
+use Rattle.search_pathfinder.specs.Places.{isWhole, sizeAt, frameAt, scan, searchOf}
 
 -- the answer at place p with length n is the smallest place from i on
 pub record Smallest (s : List ℕ) (i p n : ℕ) : Type 0 where

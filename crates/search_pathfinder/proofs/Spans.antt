@@ -1,9 +1,9 @@
 -- The ways out of `spanOf`, the running checksum over a span, and a turn of the search from a place on.
 -- Assumes nothing.
-use mathlib.Core.Path.{_≡_, refl, sym, ap, _∙_}
-use mathlib.Core.Bool.{Bool, true, false}
+use mathlib.Core.Path.{_≡_, sym, ap, _∙_}
+use mathlib.Core.Bool.{true, false}
 use mathlib.Core.List.{List, [], _∷_}
-use Prim.Native.Nat.{ℕ, zero, suc, _+_, _-_, _<_, _≤_}
+use Prim.Native.Nat.{ℕ, suc, _+_, _-_, _<_, _≤_}
 use native.Mathlib.Omega.{arith}
 use native.Mathlib.Numerals.{add-one}
 use borrow.Author.Tests.{le-leb, lt-leb, eq-eqb, ne-eqb}
@@ -13,7 +13,6 @@ use Rattle.checks.specs.Crc.{crcStep, crcFrom, crcOf}
 use Rattle.checks.proofs.Pairs.{one-next, none-left}
 use Rattle.numbers.specs.declared.Order.the-variants.{HighFirst}
 use Rattle.numbers.specs.Bytes.{numberOf}
-use Rattle.search_pathfinder.specs.declared.Found.{Found}
 use Rattle.search_pathfinder.specs.declared.Found.the-variants.{At, Nothing}
 use Rattle.search_pathfinder.specs.Places.{sizeAt, frameAt, scan, searchOf, spanOf, agrees}
 

@@ -2,10 +2,10 @@
 -- Assumes nothing.
 use mathlib.Core.Path.{_≡_}
 use mathlib.Core.Bool.{false}
-use mathlib.Core.List.{List, _++_}
+use mathlib.Core.List.{List}
 use Prim.Native.Nat.{ℕ, _+_, _-_, _≤_}
 use borrow.Rule.Slice.PartMut.{putMid}
-use lib.ListN.{length, getD, take, drop, replicate}
+use lib.ListN.{length, getD, take, replicate}
 use Rattle.laws.proofs.Firsts.{firsts-front}
 use Rattle.characters_pace.specs.Characters.{bytesAt}
 use Rattle.counts_pace.specs.declared.Counts.the-variants.{Are, Wrong}
@@ -13,7 +13,7 @@ use Rattle.counts_pace.specs.Counts.{countsOf}
 use Rattle.warnings_pace.specs.declared.Warnings.{Warnings}
 use Rattle.warnings_pace.specs.declared.Found.the-variants as found
 use Rattle.warnings_pace.specs.declared.Reading.{Reading}
-use Rattle.warnings_pace.specs.Warnings.{statusOf, nothing, countedOf, readingOf}
+use Rattle.warnings_pace.specs.Warnings.{statusOf, nothing, readingOf}
 
 -- the arrays before
 abbrev pub cellPlaces : List ℕ

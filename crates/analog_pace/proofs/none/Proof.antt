@@ -1,6 +1,5 @@
 -- `analog_pace::none` meets its contract: a refusal with nothing beside it.
 -- Assumes nothing.
-use borrow.Author.Needs.{needs}
 use Rattle.analog_pace.proofs.none.Statement.{statement}
 use Rattle.analog_pace.proofs.none.Tie as tie
 

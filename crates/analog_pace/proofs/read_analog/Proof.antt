@@ -1,7 +1,6 @@
 -- `analog_pace::read_analog` meets its contract: each way out is the case of `readingOf` that its tests name.
 -- Assumes nothing.
-use Prim.Native.Nat.{ℕ}
-use mathlib.Core.Path.{_≡_, sym, ap, _∙_}
+use mathlib.Core.Path.{_≡_, sym, _∙_}
 use mathlib.Core.Bool.{true}
 use native.Mathlib.Omega.{arith}
 use Rattle.characters_pace.specs.Characters.{bytesIn}

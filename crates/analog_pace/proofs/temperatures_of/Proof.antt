@@ -1,10 +1,10 @@
 -- `analog_pace::temperatures_of` meets its contract. The loop's invariant: the temperatures passed stand in front of zeros.
 -- Assumes nothing.
-use Prim.Native.Nat.{ℕ, _+_, _-_, _*_, _≤_}
+use Prim.Native.Nat.{_+_, _-_, _*_, _≤_}
 use mathlib.Core.Path.{_≡_, refl, ap, _∙_}
-use mathlib.Core.List.{List, _++_}
+use mathlib.Core.List.{_++_}
 use native.Mathlib.Omega.{arith}
-use lib.IntN.{ℤ, pos}
+use lib.IntN.{pos}
 use lib.ListN.{length, drop, replicate, length-set}
 use mir.Syntax.{w32}
 use mir.Val.{toZ, ofZ}

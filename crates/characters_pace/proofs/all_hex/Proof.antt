@@ -1,7 +1,7 @@
 -- `characters_pace::all_hex` meets its contract. The loop's invariant: what is noted so far, with what is left, has the answer of the whole.
 -- Assumes nothing.
-use Prim.Native.Nat.{ℕ, _+_, _-_, _≤_, _<_}
-use mathlib.Core.Path.{_≡_, refl, sym, ap, _∙_}
+use Prim.Native.Nat.{_-_, _≤_, _<_}
+use mathlib.Core.Path.{_≡_, refl}
 use mathlib.Core.Bool.{_&&_}
 use lib.ListN.{length, getD, drop}
 use lib.Dec.{eqb}

@@ -1,6 +1,5 @@
 -- `characters_pace::word_of` meets its contract: two bytes, and past the end both are 0.
 -- Assumes nothing.
-use mathlib.Core.Path.{sym, _∙_}
 use native.Mathlib.Omega.{arith}
 use Prim.Native.Nat.{_+_}
 use Rattle.characters_pace.proofs.Carried.{bytes-past}

@@ -1,6 +1,6 @@
 -- `checks::sum_low` meets its contract. The loop's invariant: the sum so far with what is left is the whole sum, modulo 65,536.
 -- Assumes nothing.
-use Prim.Native.Nat.{ℕ, _+_, _-_, _%_, _≤_, _<_}
+use Prim.Native.Nat.{_+_, _-_, _%_, _≤_, _<_}
 use mathlib.Core.Path.{_≡_, ap}
 use lib.ListN.{length, drop}
 use Rattle.laws.proofs.Walk.{left-next, left-none}

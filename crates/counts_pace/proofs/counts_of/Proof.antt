@@ -4,7 +4,7 @@ use mathlib.Core.List.{List}
 use mathlib.Core.Path.{_≡_, sym, ap, ap₂, _∙_}
 use Prim.Native.Nat.{ℕ, _+_}
 use native.Mathlib.Omega.{arith}
-use lib.ListN.{length, getD}
+use lib.ListN.{getD}
 use Rattle.characters_pace.specs.Characters.{bytesIn}
 use Rattle.characters_pace.proofs.Carried.{bytes-length}
 use Rattle.counts_pace.specs.declared.Counts.the-variants.{Are}

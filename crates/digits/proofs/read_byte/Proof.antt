@@ -1,10 +1,10 @@
 -- `digits::read_byte` meets its contract: a character that is no digit decides; two digits are below 16, so that their byte fits.
 -- Assumes nothing.
-use mathlib.Core.Path.{_≡_, sym, ap₂, _∙_}
+use mathlib.Core.Path.{_≡_}
 use native.Mathlib.Omega.{arith}
 use Prim.Native.Nat.{_<_}
 use Rattle.digits.specs.declared.Hex.the-variants.{Value, Other}
-use Rattle.digits.specs.Hexes.{digitOf, joined}
+use Rattle.digits.specs.Hexes.{digitOf}
 use Rattle.digits.proofs.Characters.{digit-small}
 use borrow.Author.Needs.{needs}
 use Rattle.digits.proofs.read_byte.Statement.{statement}

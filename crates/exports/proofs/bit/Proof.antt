@@ -2,7 +2,6 @@
 -- Assumes nothing.
 use mathlib.Core.Path.{sym, ap}
 use Rattle.exports.specs.Codes.{truthOf}
-use borrow.Author.Needs.{needs}
 use Rattle.exports.proofs.bit.Statement.{statement}
 use Rattle.exports.proofs.bit.Tie as tie
 

@@ -1,9 +1,9 @@
 -- `exports::put_value` meets its contract: 11 where there is no place, else the value in the first.
 -- Assumes nothing.
-use Prim.Native.Nat.{_≤_, _<_}
-use mathlib.Core.Path.{_≡_, refl, ap, _∙_}
-use mathlib.Core.List.{List, [], _∷_}
-use lib.IntN.{ℤ, pos}
+use Prim.Native.Nat.{_≤_}
+use mathlib.Core.Path.{refl, ap, _∙_}
+use mathlib.Core.List.{[], _∷_}
+use lib.IntN.{pos}
 use lib.ListN.{length, set}
 use mir.Syntax.{w64}
 use mir.ValLaws.{toZ-ofZ}

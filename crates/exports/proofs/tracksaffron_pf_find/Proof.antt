@@ -1,7 +1,6 @@
 -- `exports::tracksaffron_pf_find` meets its contract: the place that the search finds, or the length.
 -- Assumes nothing.
-use Prim.Native.Nat.{ℕ}
-use mathlib.Core.Path.{_≡_, sym, ap, _∙_}
+use mathlib.Core.Path.{sym, ap, _∙_}
 use lib.ListN.{length}
 use Rattle.search_pathfinder.specs.declared.Found.{Found}
 use Rattle.exports.specs.Codes.{placeCode}

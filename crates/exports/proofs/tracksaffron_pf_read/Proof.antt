@@ -1,9 +1,6 @@
 -- `exports::tracksaffron_pf_read` meets its contract: what the reply reader answers and leaves, its answer as a number.
 -- Assumes nothing.
-use mathlib.Core.Path.{_≡_, ap, _∙_}
-use mathlib.Core.List.{List}
-use Prim.Native.Nat.{ℕ}
-use lib.IntN.{ℤ}
+use mathlib.Core.Path.{ap, _∙_}
 use Rattle.records_pathfinder.specs.declared.Reply.{Reply}
 use Rattle.records_pathfinder.specs.Replies.{rowAfter, nameAfter}
 use Rattle.exports.specs.Codes.{replyCode}

@@ -1,7 +1,6 @@
 -- `exports::tracksaffron_pf_write` meets its contract: what the request writer answers and leaves, its answer as a number.
 -- Assumes nothing.
-use mathlib.Core.Path.{_≡_, ap, _∙_}
-use lib.IntN.{ℤ}
+use mathlib.Core.Path.{ap, _∙_}
 use lib.ListN.{length}
 use mir.Syntax.{w32}
 use mir.ValLaws.{toZ-ofZ}

@@ -14,8 +14,8 @@ byte-requires c κs = search needs
 byte-requires-2 : tie.Need-byte-requires-2
 byte-requires-2 c κs = search needs
 
-signed32-requires : tie.Need-signed32-requires
-signed32-requires c κs = search needs
+word-requires : tie.Need-word-requires
+word-requires c κs = search needs
 
 byte-requires-3 : tie.Need-byte-requires-3
 byte-requires-3 c κs = search needs
@@ -26,11 +26,11 @@ returns c =
     let cell-c : toZ w32 (ofZ w32 (k .«cell_c»)) ≡ k .«cell_c» = search needs in
     same (c .before .before .before .before .byte .ok) (c .before .before .before .before .byte .ensures)
     (same (c .before .before .before .byte2 .ok) (c .before .before .before .byte2 .ensures)
-    (same (c .before .before .signed32 .ok) (c .before .before .signed32 .ensures)
+    (same (c .before .before .word .ok) (c .before .before .word .ensures)
     (then cell-c
     (same (c .before .byte3 .ok) (c .before .byte3 .ensures)
     refl))))
 
 pub cell-numbers-spec : {M : Type 1} → statement M
 cell-numbers-spec =
-    tie.close (tie.spec byte-requires byte-requires-2 signed32-requires byte-requires-3 returns)
+    tie.close (tie.spec byte-requires byte-requires-2 word-requires byte-requires-3 returns)

@@ -6,42 +6,42 @@ use borrow.Author.Needs.{needs}
 use Rattle.exports_old58.proofs.energy_numbers.Statement.{statement}
 use Rattle.exports_old58.proofs.energy_numbers.Tie as tie
 
-signed32-requires : tie.Need-signed32-requires
-signed32-requires c κs = search needs
+word-requires : tie.Need-word-requires
+word-requires c κs = search needs
 
-signed32-requires-2 : tie.Need-signed32-requires-2
-signed32-requires-2 c κs = search needs
+word-requires-2 : tie.Need-word-requires-2
+word-requires-2 c κs = search needs
 
-signed32-requires-3 : tie.Need-signed32-requires-3
-signed32-requires-3 c κs = search needs
+word-requires-3 : tie.Need-word-requires-3
+word-requires-3 c κs = search needs
 
 byte-requires : tie.Need-byte-requires
 byte-requires c κs = search needs
 
-signed32-requires-4 : tie.Need-signed32-requires-4
-signed32-requires-4 c κs = search needs
+word-requires-4 : tie.Need-word-requires-4
+word-requires-4 c κs = search needs
 
-signed32-requires-5 : tie.Need-signed32-requires-5
-signed32-requires-5 c κs = search needs
+word-requires-5 : tie.Need-word-requires-5
+word-requires-5 c κs = search needs
 
 returns : tie.Need-returns
 returns c =
-    same (c .before .before .before .before .before .signed32 .ok) (c .before .before .before .before .before .signed32 .ensures)
-    (same (c .before .before .before .before .signed322 .ok) (c .before .before .before .before .signed322 .ensures)
-    (same (c .before .before .before .signed323 .ok) (c .before .before .before .signed323 .ensures)
+    same (c .before .before .before .before .before .word .ok) (c .before .before .before .before .before .word .ensures)
+    (same (c .before .before .before .before .word2 .ok) (c .before .before .before .before .word2 .ensures)
+    (same (c .before .before .before .word3 .ok) (c .before .before .before .word3 .ensures)
     (same (c .before .before .byte .ok) (c .before .before .byte .ensures)
-    (same (c .before .signed324 .ok) (c .before .signed324 .ensures)
-    (same (c .signed325 .ok) (c .signed325 .ensures)
+    (same (c .before .word4 .ok) (c .before .word4 .ensures)
+    (same (c .word5 .ok) (c .word5 .ensures)
     refl)))))
 
 pub energy-numbers-spec : {M : Type 1} → statement M
 energy-numbers-spec =
     tie.close
     (tie.spec
-    signed32-requires
-    signed32-requires-2
-    signed32-requires-3
+    word-requires
+    word-requires-2
+    word-requires-3
     byte-requires
-    signed32-requires-4
-    signed32-requires-5
+    word-requires-4
+    word-requires-5
     returns)

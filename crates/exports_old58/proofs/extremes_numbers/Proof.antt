@@ -8,14 +8,14 @@ use borrow.Author.Needs.{needs}
 use Rattle.exports_old58.proofs.extremes_numbers.Statement.{statement}
 use Rattle.exports_old58.proofs.extremes_numbers.Tie as tie
 
-signed32-requires : tie.Need-signed32-requires
-signed32-requires c κs = search needs
+word-requires : tie.Need-word-requires
+word-requires c κs = search needs
 
 byte-requires : tie.Need-byte-requires
 byte-requires c κs = search needs
 
-signed32-requires-2 : tie.Need-signed32-requires-2
-signed32-requires-2 c κs = search needs
+word-requires-2 : tie.Need-word-requires-2
+word-requires-2 c κs = search needs
 
 byte-requires-2 : tie.Need-byte-requires-2
 byte-requires-2 c κs = search needs
@@ -31,9 +31,9 @@ returns c =
     let e = c .before .before .before .before .before .before .before .args .e in
     let coldest-c : toZ w32 (ofZ w32 (e .«coldest_c»)) ≡ e .«coldest_c» = search needs in
     let hottest-c : toZ w32 (ofZ w32 (e .«hottest_c»)) ≡ e .«hottest_c» = search needs in
-    same (c .before .before .before .before .before .before .signed32 .ok) (c .before .before .before .before .before .before .signed32 .ensures)
+    same (c .before .before .before .before .before .before .word .ok) (c .before .before .before .before .before .before .word .ensures)
     (same (c .before .before .before .before .before .byte .ok) (c .before .before .before .before .before .byte .ensures)
-    (same (c .before .before .before .before .signed322 .ok) (c .before .before .before .before .signed322 .ensures)
+    (same (c .before .before .before .before .word2 .ok) (c .before .before .before .before .word2 .ensures)
     (same (c .before .before .before .byte2 .ok) (c .before .before .before .byte2 .ensures)
     (then coldest-c
     (same (c .before .before .byte3 .ok) (c .before .before .byte3 .ensures)
@@ -45,9 +45,9 @@ pub extremes-numbers-spec : {M : Type 1} → statement M
 extremes-numbers-spec =
     tie.close
     (tie.spec
-    signed32-requires
+    word-requires
     byte-requires
-    signed32-requires-2
+    word-requires-2
     byte-requires-2
     byte-requires-3
     byte-requires-4

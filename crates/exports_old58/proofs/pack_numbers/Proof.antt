@@ -6,8 +6,8 @@ use borrow.Author.Needs.{needs}
 use Rattle.exports_old58.proofs.pack_numbers.Statement.{statement}
 use Rattle.exports_old58.proofs.pack_numbers.Tie as tie
 
-signed32-requires : tie.Need-signed32-requires
-signed32-requires c κs = search needs
+word-requires : tie.Need-word-requires
+word-requires c κs = search needs
 
 is-known-requires : tie.Need-is-known-requires
 is-known-requires c κs = search needs
@@ -29,7 +29,7 @@ milliamps-of-requires-3 c κs = search needs
 
 returns : tie.Need-returns
 returns c =
-    same (c .before .before .before .before .before .before .signed32 .ok) (c .before .before .before .before .before .before .signed32 .ensures)
+    same (c .before .before .before .before .before .before .word .ok) (c .before .before .before .before .before .before .word .ensures)
     (same (c .before .before .before .before .before .is-known .ok) (c .before .before .before .before .before .is-known .ensures)
     (same (c .before .before .before .before .milliamps-of .ok) (c .before .before .before .before .milliamps-of .ensures)
     (same (c .before .before .before .is-known2 .ok) (c .before .before .before .is-known2 .ensures)
@@ -42,7 +42,7 @@ pub pack-numbers-spec : {M : Type 1} → statement M
 pack-numbers-spec =
     tie.close
     (tie.spec
-    signed32-requires
+    word-requires
     is-known-requires
     milliamps-of-requires
     is-known-requires-2

@@ -8,6 +8,7 @@ use Rattle.old58.specs.Record.{recordOf}
 use Rattle.exports_rows.specs.Told.{placed}
 use Rattle.exports_rows.proofs.Placing.{total, parts-told, parts-untold}
 use Rattle.exports_old58.specs.Records.{packNumbers, extremesNumbers, cellNumbers, energyNumbers, setupNumbers, partsOf, sizes}
+use Rattle.exports_old58.proofs.Small.{pack-small, extremes-small, cell-small, energy-small}
 use borrow.Author.Needs.{needs}
 use Rattle.exports_old58.proofs.put_record.Statement.{statement}
 use Rattle.exports_old58.proofs.put_record.Tie as tie
@@ -25,7 +26,9 @@ pack-of-requires : tie.Need-pack-of-requires
 pack-of-requires c κs = search needs
 
 pack-numbers-requires : tie.Need-pack-numbers-requires
-pack-numbers-requires c κs = search needs
+pack-numbers-requires c κs =
+    let known = c .before .before in
+    rw (c .pack-of .ensures) (pack-small (known .before .args .s .now) (known .shared-slice-known .given))
 
 slice-aggregate-put-i32 : tie.Need-slice-aggregate-put-i32
 slice-aggregate-put-i32 c = search needs
@@ -37,7 +40,9 @@ extremes-of-requires : tie.Need-extremes-of-requires
 extremes-of-requires c κs = search needs
 
 extremes-numbers-requires : tie.Need-extremes-numbers-requires
-extremes-numbers-requires c κs = search needs
+extremes-numbers-requires c κs =
+    let known = c .before .before .before .before .before .before .before .before in
+    rw (c .extremes-of .ensures) (extremes-small (known .before .args .s .now) (known .shared-slice-known .given))
 
 slice-aggregate-put-i32-2 : tie.Need-slice-aggregate-put-i32-2
 slice-aggregate-put-i32-2 c = search needs
@@ -49,7 +54,9 @@ cell-of-requires : tie.Need-cell-of-requires
 cell-of-requires c κs = search needs
 
 cell-numbers-requires : tie.Need-cell-numbers-requires
-cell-numbers-requires c κs = search needs
+cell-numbers-requires c κs =
+    let known = c .before .before .before .before .before .before .before .before .before .before .before .before .before .before in
+    rw (c .cell-of .ensures) (cell-small (known .before .args .s .now) (known .shared-slice-known .given))
 
 slice-aggregate-put-i32-3 : tie.Need-slice-aggregate-put-i32-3
 slice-aggregate-put-i32-3 c = search needs
@@ -61,7 +68,9 @@ energy-of-requires : tie.Need-energy-of-requires
 energy-of-requires c κs = search needs
 
 energy-numbers-requires : tie.Need-energy-numbers-requires
-energy-numbers-requires c κs = search needs
+energy-numbers-requires c κs =
+    let known = c .before .before .before .before .before .before .before .before .before .before .before .before .before .before .before .before .before .before .before .before in
+    rw (c .energy-of .ensures) (energy-small (known .before .args .s .now) (known .shared-slice-known .given))
 
 slice-aggregate-put-i32-4 : tie.Need-slice-aggregate-put-i32-4
 slice-aggregate-put-i32-4 c = search needs

@@ -2,7 +2,6 @@
 -- Assumes nothing.
 use borrow.Author.Tests.{eq-eqb, ne-eqb}
 use Rattle.exports_restore.specs.Jobs.{phaseIn}
-use borrow.Author.Needs.{needs}
 use Rattle.exports_restore.proofs.phase_of.Statement.{statement}
 use Rattle.exports_restore.proofs.phase_of.Tie as tie
 

@@ -1,11 +1,10 @@
 -- `exports_rows::put_i32` meets its contract. The loop's invariant: the first i values stand from the place `at` on, all else as it was.
 -- Assumes nothing.
 use Prim.Native.Nat.{_+_, _-_, _≤_}
-use mathlib.Core.Path.{_≡_, refl, sym, _∙_}
-use mathlib.Core.List.{map}
+use mathlib.Core.Path.{_≡_, refl}
 use native.Mathlib.Omega.{arith}
 use lib.IntN.{pos}
-use lib.ListN.{length, length-set, length-map, List·getD-map}
+use lib.ListN.{length, length-set}
 use lib.Seq.{paste, paste-zero}
 use mir.Syntax.{w32}
 use mir.ValLaws.{toZ-ofZ}

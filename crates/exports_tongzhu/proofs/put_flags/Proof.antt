@@ -1,8 +1,8 @@
 -- `exports_tongzhu::put_flags` meets its contract. The loop's invariant: the first i places have their bytes, all else is as it was cleared.
 -- Assumes nothing.
 use borrow.Author.Needs.{needs}
-use Prim.Native.Nat.{ℕ, _+_, _-_, _*_, _≤_}
-use mathlib.Core.Path.{_≡_, refl, ap, ap₂, _∙_}
+use Prim.Native.Nat.{ℕ, _+_, _-_, _≤_}
+use mathlib.Core.Path.{_≡_, ap₂, _∙_}
 use mathlib.Core.List.{List, _++_}
 use native.Mathlib.Omega.{arith}
 use lib.IntN.{ℤ, pos}
@@ -11,7 +11,6 @@ use mir.Syntax.{w32}
 use mir.Val.{toZ, ofZ}
 use Rattle.laws.specs.Firsts.{firsts}
 use Rattle.laws.proofs.Firsts.{firsts-more}
-use Rattle.monitor3_tongzhu.specs.Values.{numberAt, temperatureAt}
 use Rattle.exports_tongzhu.proofs.put_flags.Statement.{statement}
 use Rattle.exports_tongzhu.proofs.put_flags.Tie as tie
 

@@ -2,17 +2,17 @@
 -- cleared.
 -- Assumes nothing.
 use borrow.Author.Needs.{needs}
-use Prim.Native.Nat.{ℕ, _+_, _-_, _*_, _≤_}
-use mathlib.Core.Path.{_≡_, refl, ap, ap₂, _∙_}
+use Prim.Native.Nat.{ℕ, _+_, _-_, _≤_}
+use mathlib.Core.Path.{_≡_, ap₂, _∙_}
 use mathlib.Core.List.{List, _++_}
 use native.Mathlib.Omega.{arith}
-use lib.IntN.{ℤ, pos}
-use lib.ListN.{length, getD, drop, length-set}
+use lib.IntN.{ℤ}
+use lib.ListN.{length, drop, length-set}
 use mir.Syntax.{w8, w32}
 use mir.Val.{toZ, ofZ}
 use Rattle.laws.specs.Firsts.{firsts}
 use Rattle.laws.proofs.Firsts.{firsts-more}
-use Rattle.monitor3_tongzhu.specs.Values.{numberAt, temperatureAt}
+use Rattle.monitor3_tongzhu.specs.Values.{temperatureAt}
 use Rattle.exports_tongzhu.proofs.put_temperatures.Statement.{statement}
 use Rattle.exports_tongzhu.proofs.put_temperatures.Tie as tie
 

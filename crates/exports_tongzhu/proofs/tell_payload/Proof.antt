@@ -1,7 +1,7 @@
 -- `exports_tongzhu::tell_payload` meets its contract: the answer told, which for function 12 is what its fields are.
 -- Assumes nothing.
 use Prim.Native.Nat.{ℕ}
-use mathlib.Core.Path.{_≡_, refl, ap, ap₂, _∙_}
+use mathlib.Core.Path.{_≡_, ap, _∙_}
 use mathlib.Core.List.{List}
 use lib.ListN.{length}
 use Rattle.frames_tongzhu.specs.Functions.{kindOf}

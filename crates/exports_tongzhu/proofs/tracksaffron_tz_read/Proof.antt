@@ -1,6 +1,6 @@
 -- `exports_tongzhu::tracksaffron_tz_read` meets its contract: by the frame; its payload lies within the bytes.
 -- Assumes nothing.
-use mathlib.Core.Path.{_≡_, refl, sym, ap, _∙_}
+use mathlib.Core.Path.{_≡_, sym, ap, _∙_}
 use Prim.Native.Nat.{ℕ}
 use native.Mathlib.Omega.{arith}
 use lib.ListN.{length}

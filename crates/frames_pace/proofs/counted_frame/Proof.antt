@@ -1,9 +1,8 @@
 -- `frames_pace::counted_frame` meets its contract: each way out is the case of `frameOf` that its tests name.
 -- Assumes nothing.
 use mathlib.Core.Path.{_≡_, sym, ap, ap₂, _∙_}
-use mathlib.Core.Bool.{true}
 use Prim.Native.Nat.{ℕ, _-_}
-use lib.ListN.{length, getD}
+use lib.ListN.{length}
 use borrow.Author.Tests.{not-true, not-false}
 use Rattle.checks.specs.Sums.{total, closes}
 use Rattle.digits.specs.declared.Length.the-variants.{Is}

@@ -3,7 +3,7 @@
 use Rattle.characters_pace.proofs.Carried.{hex-exact}
 use Rattle.frames_pace.proofs.Writing.{no-word, head-is}
 use borrow.Author.Needs.{needs}
-use mathlib.Core.Path.{_≡_, sym, ap, _∙_}
+use mathlib.Core.Path.{sym, _∙_}
 use Rattle.frames_pace.proofs.put_head.Statement.{statement}
 use Rattle.frames_pace.proofs.put_head.Tie as tie
 

@@ -1,7 +1,6 @@
 -- `frames_pace::read_frame` meets its contract: each way out is the case of `frameOf` that its tests name, the last one by `counted_frame`.
 -- Assumes nothing.
 use mathlib.Core.Path.{_≡_, sym, ap, _∙_}
-use mathlib.Core.Bool.{Bool}
 use borrow.Author.Tests.{not-true, not-false}
 use Rattle.frames_pace.specs.declared.Frame.the-variants.{Refused}
 use Rattle.characters_pace.specs.Characters.{allHex}

@@ -3,7 +3,6 @@
 use borrow.Author.Needs.{needs}
 use Rattle.frames_pace.proofs.Writing.{seal-is}
 use native.Mathlib.Omega.{arith}
-use lib.ListN.{length-set}
 use Rattle.frames_pace.proofs.seal.Statement.{statement}
 use Rattle.frames_pace.proofs.seal.Tie as tie
 

@@ -1,8 +1,7 @@
 -- `frames_pace::write_frame` meets its contract: the refusals change nothing; else mark, header, INFO and end stand at the front, in this order.
 -- Assumes nothing.
-use mathlib.Core.Path.{_≡_, refl, ap, _∙_}
+use mathlib.Core.Path.{refl, _∙_}
 use borrow.Author.Needs.{needs}
-use Rattle.refusals.specs.declared.Written.the-variants.{Refused}
 use Rattle.frames_pace.proofs.Writing.{frame-is}
 use native.Mathlib.Omega.{arith}
 use borrow.Author.Tests.{lt-ltb, le-ltb}

@@ -1,9 +1,8 @@
 -- `monitor3_tongzhu::find_lists` meets its contract: past the end there is nothing; else by the shape of what stands from the offset on.
 -- Assumes nothing.
-use mathlib.Core.Path.{_≡_, sym, ap, _∙_}
-use Prim.Native.Nat.{_-_}
+use mathlib.Core.Path.{sym, ap, _∙_}
 use native.Mathlib.Omega.{arith}
-use lib.ListN.{length, take, drop, length-drop}
+use lib.ListN.{length-drop}
 use Rattle.monitor3_tongzhu.proofs.Shapes.{counted-shaped, places-beyond, from-there}
 use Rattle.monitor3_tongzhu.specs.Layout.{shapeOf, placesIn, placesAt}
 use borrow.Author.Needs.{needs}

@@ -1,13 +1,12 @@
 -- `old58::current_of` meets its contract: the amount is below 2 ^ 31, so that it and its opposite are what 32 bits hold.
 -- Assumes nothing.
-use mathlib.Core.Path.{ap, _∙_}
+use mathlib.Core.Path.{_∙_}
 use Prim.Native.Nat.{_*_}
 use native.Mathlib.Omega.{arith}
 use mir.Syntax.{w32}
 use mir.ValLaws.{toZ-pos}
 use borrow.Author.Tests.{ne-eqb}
 use Rattle.laws.proofs.Differences.{opposite-fits, opposite-held}
-use Rattle.old58.specs.declared.Current.the-variants.{Milliamps}
 use Rattle.old58.specs.Record.{currentOf}
 use borrow.Author.Needs.{needs}
 use Rattle.old58.proofs.current_of.Statement.{statement}

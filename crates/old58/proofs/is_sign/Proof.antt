@@ -1,10 +1,9 @@
 -- `old58::is_sign` meets its contract: each way out rewrites with the numbers that led there.
 -- Assumes nothing.
 use Rattle.old58.specs.Read.{signKnown}
-use mathlib.Core.Path.{_≡_}
 use mathlib.Core.Logic.{inl, inr}
 use mathlib.Core.Logic.{⊎-elim}
-use borrow.Author.Tests.{eq-eqb, ne-eqb}
+use borrow.Author.Tests.{ne-eqb}
 use Rattle.old58.proofs.is_sign.Statement.{statement}
 use Rattle.old58.proofs.is_sign.Tie as tie
 

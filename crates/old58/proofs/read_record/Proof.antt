@@ -1,8 +1,6 @@
 -- `old58::read_record` meets its contract: what the judgement is decides, and a sound record is read.
 -- Assumes nothing.
 use mathlib.Core.Path.{sym, ap, _∙_}
-use mathlib.Core.List.{List}
-use Prim.Native.Nat.{ℕ}
 use Rattle.old58.specs.declared.Reading.the-variants.{Whole}
 use Rattle.old58.specs.Read.{readAs, readingOf}
 use borrow.Author.Needs.{needs}

@@ -1,6 +1,6 @@
 -- `records_pace::answered` meets its contract: each way out is the case of `answeredOf` that its tests name.
 -- Assumes nothing.
-use mathlib.Core.Path.{_≡_, sym, ap, _∙_}
+use mathlib.Core.Path.{sym, ap, _∙_}
 use borrow.Author.Tests.{not-true, not-false}
 use Rattle.records_pace.specs.declared.Answer.the-variants.{Refused}
 use Rattle.records_pace.specs.Reply.{bare}

@@ -4,7 +4,6 @@ use mathlib.Core.Path.{_≡_, sym, ap, _∙_}
 use Rattle.characters_pace.specs.Characters.{bytesIn}
 use Rattle.rows_pace.specs.declared.Command.{Command}
 use Rattle.records_pace.specs.declared.Answer.the-variants.{Refused}
-use Rattle.records_pace.specs.declared.Reply.{Reply}
 use Rattle.records_pace.specs.Reply.{bare, ofAnalog, ofWarnings, ofSetting, payloadReply}
 use borrow.Author.Needs.{needs}
 use Rattle.records_pace.proofs.payload.Statement.{statement}

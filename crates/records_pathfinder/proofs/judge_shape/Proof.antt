@@ -1,6 +1,5 @@
 -- `records_pathfinder::judge_shape` meets its contract: the shape decides, then the length of the data and the room.
 -- Assumes nothing.
-use mathlib.Core.Path.{_∙_}
 use borrow.Author.Tests.{lt-ltb, le-ltb, eq-eqb, ne-eqb}
 use borrow.Author.Needs.{needs}
 use Rattle.records_pathfinder.proofs.judge_shape.Statement.{statement}

@@ -1,7 +1,6 @@
 -- `records_pathfinder::judge_words` meets its contract: the data are n words exactly where 4 divides their length n times.
 -- Assumes nothing.
-use mathlib.Core.Path.{_≡_, _∙_}
-use Prim.Native.Nat.{_*_}
+use mathlib.Core.Path.{_∙_}
 use native.Mathlib.Omega.{arith}
 use Rattle.records_pathfinder.proofs.Answers.{words-misshapen, words-no-room, words-read}
 use borrow.Author.Needs.{needs}

@@ -2,7 +2,6 @@
 -- Assumes nothing.
 use mathlib.Core.Path.{_≡_, refl, sym, ap, _∙_}
 use Rattle.refusals.specs.declared.Written.the-variants.{Refused}
-use Rattle.refusals.specs.Refused.{refusedWith}
 use Rattle.rows_pace.specs.Commands.{commandOf}
 use Rattle.requests_pace.specs.declared.Kind.{Kind}
 use Rattle.requests_pace.specs.Request.{kindOf}

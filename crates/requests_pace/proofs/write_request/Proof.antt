@@ -1,6 +1,6 @@
 -- `requests_pace::write_request` meets its contract: by the request.
 -- Assumes nothing.
-use mathlib.Core.Path.{_≡_, sym, ap, _∙_}
+use mathlib.Core.Path.{sym, ap, _∙_}
 use Rattle.requests_pace.specs.declared.Request.{Request}
 use Rattle.requests_pace.specs.Request.{writtenOf, roomAfter}
 use borrow.Author.Needs.{needs}

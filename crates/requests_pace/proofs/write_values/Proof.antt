@@ -1,6 +1,6 @@
 -- `requests_pace::write_values` meets its contract: the values may be written, and the part that is lent is their INFO.
 -- Assumes nothing.
-use mathlib.Core.Path.{_≡_, refl, sym, ap, _∙_}
+use mathlib.Core.Path.{refl, sym, ap, _∙_}
 use borrow.Author.Tests.{not-true, not-false}
 use Rattle.refusals.specs.declared.Written.the-variants.{Refused}
 use Rattle.requests_pace.proofs.Writing.{values-refused, info-fits, values-written}

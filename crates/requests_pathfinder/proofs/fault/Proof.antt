@@ -1,6 +1,6 @@
 -- `requests_pathfinder::fault` meets its contract: the fault of either request.
 -- Assumes nothing.
-use mathlib.Core.Path.{_≡_, sym, ap, _∙_}
+use mathlib.Core.Path.{sym, ap, _∙_}
 use mir.Syntax.{w32}
 use mir.ValLaws.{toZ-ofZ}
 use Rattle.requests_pathfinder.specs.Requests.{faultOf}

@@ -1,10 +1,8 @@
 -- `requests_pathfinder::fault_of_write` meets its contract: the register first, then the value's range.
 -- Assumes nothing.
-use mathlib.Core.Path.{_≡_, sym, ap, _∙_}
+use mathlib.Core.Path.{sym, ap, _∙_}
 use borrow.Author.Tests.{not-true, not-false}
-use mathlib.Core.Bool.{true, false}
 use mir.Syntax.{w32}
-use mir.Val.{toZ, ofZ}
 use mir.ValLaws.{toZ-ofZ}
 use Rattle.registers_pathfinder.specs.Registers.{inRange}
 use Rattle.requests_pathfinder.proofs.Judged.{no-register, no-value, write-right}

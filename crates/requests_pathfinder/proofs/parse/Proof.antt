@@ -1,7 +1,6 @@
 -- `requests_pathfinder::parse` meets its contract: each way by the law for its opcodes.
 -- Assumes nothing.
-use mathlib.Core.Path.{_≡_, _∙_}
-use native.Mathlib.Omega.{arith}
+use mathlib.Core.Path.{_∙_}
 use Rattle.requests_pathfinder.proofs.Judged.{parsed-set, parsed-low, parsed-high, parsed-misshapen, parsed-ask}
 use borrow.Author.Needs.{needs}
 use Rattle.requests_pathfinder.proofs.parse.Statement.{statement}

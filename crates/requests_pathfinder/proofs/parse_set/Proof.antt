@@ -1,9 +1,8 @@
 -- `requests_pathfinder::parse_set` meets its contract: shape, register, range, each by its law.
 -- Assumes nothing.
-use mathlib.Core.Path.{_≡_, sym, ap, _∙_}
+use mathlib.Core.Path.{sym, ap, _∙_}
 use borrow.Author.Tests.{not-true, not-false}
 use mir.Syntax.{w32}
-use mir.Val.{toZ, ofZ}
 use mir.ValLaws.{toZ-ofZ}
 use Rattle.registers_pathfinder.specs.Registers.{inRange}
 use Rattle.requests_pathfinder.proofs.Judged.{set-misshapen, set-no-register, set-no-value, set-read}

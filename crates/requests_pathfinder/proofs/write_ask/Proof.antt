@@ -1,7 +1,6 @@
 -- `requests_pathfinder::write_ask` meets its contract: header and end around no data, or nothing for lack of room.
 -- Assumes nothing.
-use mathlib.Core.Path.{_≡_, refl, _∙_}
-use native.Mathlib.Omega.{arith}
+use mathlib.Core.Path.{refl}
 use Rattle.requests_pathfinder.specs.declared.Request.the-variants.{Ask}
 use Rattle.requests_pathfinder.proofs.Made.{no-room, frame-fits, ask-made}
 use borrow.Author.Needs.{needs}

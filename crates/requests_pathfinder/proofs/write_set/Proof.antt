@@ -1,7 +1,6 @@
 -- `requests_pathfinder::write_set` meets its contract: header, data and end, or nothing for lack of room.
 -- Assumes nothing.
-use mathlib.Core.Path.{_≡_, refl, _∙_}
-use native.Mathlib.Omega.{arith}
+use mathlib.Core.Path.{refl, _∙_}
 use Rattle.requests_pathfinder.specs.declared.Request.the-variants.{Write}
 use Rattle.requests_pathfinder.proofs.Made.{no-room, frame-fits, set-made}
 use mathlib.Core.Path.{ap}

@@ -1,9 +1,8 @@
 -- `rows_pace::all_within` meets its contract. The loop's invariant: what is left has the answer of the whole.
 -- Assumes nothing.
 use Rattle.characters_pace.proofs.Tests.{all-stopped, all-passed, all-ended}
-use Prim.Native.Nat.{ℕ, _+_, _-_, _≤_}
-use mathlib.Core.Path.{_≡_, refl, sym, ap, _∙_}
-use mathlib.Core.Bool.{Bool, _&&_}
+use Prim.Native.Nat.{_-_, _≤_}
+use mathlib.Core.Path.{_≡_, refl, sym, _∙_}
 use native.Mathlib.Omega.{arith}
 use lib.ListN.{length, drop}
 use borrow.Author.Tests.{not-true, not-false}

@@ -1,7 +1,7 @@
 -- `rows_pace::info_of` meets its contract: lead byte, amounts and delay are stored one after another over zeros.
 -- Assumes nothing.
 use Prim.Native.Nat.{_≤_}
-use mathlib.Core.Path.{_≡_, sym, ap, _∙_}
+use mathlib.Core.Path.{_≡_, ap, _∙_}
 use native.Mathlib.Omega.{arith}
 use lib.ListN.{length}
 use Rattle.rows_pace.specs.Rows.{rowOf, settingOf}

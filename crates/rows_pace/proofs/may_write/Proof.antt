@@ -1,7 +1,7 @@
 -- `rows_pace::may_write` meets its contract: the part that is lent holds the amounts, and the two tests are the definition's.
 -- Assumes nothing.
 use lib.ListN.{length}
-use mathlib.Core.Path.{_≡_, sym, ap, _∙_}
+use mathlib.Core.Path.{_≡_, ap, _∙_}
 use native.Mathlib.Omega.{arith}
 use borrow.Author.Tests.{not-true, not-false}
 use Rattle.rows_pace.specs.Rows.{rowOf, settingOf}

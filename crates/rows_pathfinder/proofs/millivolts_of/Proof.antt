@@ -1,6 +1,6 @@
 -- `rows_pathfinder::millivolts_of` meets its contract: ten times a number of 16 bits fits 32.
 -- Assumes nothing.
-use mathlib.Core.Path.{_≡_, ap}
+use mathlib.Core.Path.{ap}
 use lib.IntN.{ℤ}
 use mir.Syntax.{w16, w32}
 use mir.Val.{SFits}

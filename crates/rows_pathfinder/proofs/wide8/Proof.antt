@@ -1,7 +1,6 @@
 -- `rows_pathfinder::wide8` meets its contract: the signed number of 8 bits, in 64.
 -- Assumes nothing.
 use mathlib.Core.Path.{_∙_}
-use native.Mathlib.Omega.{arith}
 use mir.Syntax.{w8, w64}
 use mir.Val.{SFits}
 use mir.Facts.{sfits-widen}

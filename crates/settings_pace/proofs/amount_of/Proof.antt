@@ -2,8 +2,8 @@
 -- Assumes nothing.
 use mir.Syntax.{w16}
 use mir.Val.{SFits}
-use mathlib.Core.Path.{_≡_, sym, ap, _∙_}
-use mathlib.Core.Bool.{Bool, true}
+use mathlib.Core.Path.{sym, ap, _∙_}
+use mathlib.Core.Bool.{Bool}
 use borrow.Author.Tests.{not-true, not-false}
 use Rattle.settings_pace.specs.Reading.{amountOf, opposite}
 use Rattle.settings_pace.proofs.Amounts.{widened-fits, negated-fits, positive, amount-fits, amount-is}

@@ -1,11 +1,6 @@
 -- `settings_pace::has_shape` meets its contract: the bytes are half as many as the characters.
 -- Assumes nothing.
-use mathlib.Core.Bool.{Bool, _&&_}
-use Prim.Native.Nat.{_+_, _*_}
-use lib.Dec.{eqb}
-use mathlib.Core.Path.{_≡_, sym, ap, _∙_}
-use Prim.Native.Nat.{ℕ}
-use native.Mathlib.Omega.{arith}
+use mathlib.Core.Path.{_∙_}
 use borrow.Author.Tests.{eq-eqb, ne-eqb}
 use Rattle.characters_pace.proofs.Carried.{bytes-length}
 use Rattle.settings_pace.specs.Reading.{shaped}

@@ -1,7 +1,7 @@
 -- `settings_pace::parse_setting` meets its contract: each way out is the case of `requestOf` that its tests name.
 -- Assumes nothing.
 use Prim.Native.Nat.{_≤_}
-use mathlib.Core.Path.{_≡_, sym, ap, _∙_}
+use mathlib.Core.Path.{sym, ap, _∙_}
 use native.Mathlib.Omega.{arith}
 use borrow.Author.Tests.{not-true, not-false}
 use Rattle.characters_pace.specs.Characters.{bytesIn}

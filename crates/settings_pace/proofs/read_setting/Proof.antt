@@ -6,7 +6,7 @@ use borrow.Rule.Slice.PartMut.{putMid}
 use Rattle.settings_pace.proofs.Taken.{places, filled-length}
 use Prim.Native.Nat.{_≤_}
 use Rattle.characters_pace.specs.Characters.{bytesIn}
-use mathlib.Core.Path.{_≡_, sym, ap, _∙_}
+use mathlib.Core.Path.{_≡_, ap, _∙_}
 use native.Mathlib.Omega.{arith}
 use borrow.Author.Tests.{not-true, not-false}
 use Rattle.settings_pace.specs.declared.Found.the-variants.{Set, Refused}

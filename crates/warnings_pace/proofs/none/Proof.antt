@@ -1,6 +1,5 @@
 -- `warnings_pace::none` meets its contract: a refusal with nothing beside it.
 -- Assumes nothing.
-use borrow.Author.Needs.{needs}
 use Rattle.warnings_pace.proofs.none.Statement.{statement}
 use Rattle.warnings_pace.proofs.none.Tie as tie
 
