@@ -5,7 +5,8 @@ use exports_rows::written_number;
 use records_pathfinder::Reply;
 use records_pathfinder::read_reply;
 use requests_pathfinder::Request;
-use requests_pathfinder::write_request;
+use requests_pathfinder::write_ask;
+use requests_pathfinder::write_set;
 use rows_pathfinder::Row;
 use rows_pathfinder::TenMillivolts;
 use rows_pathfinder::narrow;
@@ -46,7 +47,7 @@ pub extern "C" fn tracksaffron_pf_ask(opcode: u8, out: &mut [u8]) -> u64
     ensures answer { λ r. ⌜ r ≡ writtenCode (sentAs (Request.Ask opcode) (length (now (out .entry)))) ⌝ }
     ensures room { λ r. ⌜ now (out .exit) ≡ roomAfter (sentAs (Request.Ask opcode) (length (now (out .entry)))) (Request.Ask opcode) (now (out .entry)) ⌝ }
 {
-    written_number(write_request(Request::Ask(opcode), out))
+    written_number(write_ask(opcode, out))
 }
 
 // Writes the request that sets a Pathfinder register.
@@ -55,7 +56,7 @@ pub extern "C" fn tracksaffron_pf_write(register: u8, value: i32, out: &mut [u8]
     ensures answer { λ r. ⌜ r ≡ writtenCode (sentAs (Request.Write register value) (length (now (out .entry)))) ⌝ }
     ensures room { λ r. ⌜ now (out .exit) ≡ roomAfter (sentAs (Request.Write register value) (length (now (out .entry)))) (Request.Write register value) (now (out .entry)) ⌝ }
 {
-    written_number(write_request(Request::Write { register, value }, out))
+    written_number(write_set(register, value, out))
 }
 
 // Narrows a word of a Pathfinder reply to its row's type; the value goes to the first place.

@@ -36,10 +36,6 @@ pub fn write_request(q: Request, out: &mut [u8]) -> Written
     ensures answer { λ r. ⌜ r ≡ sentAs q (length (now (out .entry))) ⌝ }
     ensures room { λ r. ⌜ now (out .exit) ≡ roomAfter r q (now (out .entry)) ⌝ }
 {
-    let number = fault(q);
-    if number != 0 {
-        return not_written(number);
-    }
     match q {
         Request::Ask(opcode) => write_ask(opcode, out),
         Request::Write { register, value } => write_set(register, value, out),
@@ -57,16 +53,31 @@ pub fn read_request(s: &[u8]) -> Parsed
     }
 }
 
-// The refusal that a request meets before any room is looked at, or 0.
-fn fault(q: Request) -> u8
-    ensures { λ r. ⌜ r ≡ faultOf q ⌝ }
+// Writes the request without data that this opcode is.
+pub fn write_ask(opcode: u8, out: &mut [u8]) -> Written
+    ensures answer { λ r. ⌜ r ≡ sentAs (Request.Ask opcode) (length (now (out .entry))) ⌝ }
+    ensures room { λ r. ⌜ now (out .exit) ≡ roomAfter r (Request.Ask opcode) (now (out .entry)) ⌝ }
 {
-    match q {
-        Request::Ask(opcode) => fault_of_ask(opcode),
-        Request::Write { register, value } => fault_of_write(register, value),
+    let number = fault_of_ask(opcode);
+    if number != 0 {
+        return not_written(number);
     }
+    ask_frame(opcode, out)
 }
 
+// Writes request 0E.
+pub fn write_set(register: u8, value: i32, out: &mut [u8]) -> Written
+    ensures answer { λ r. ⌜ r ≡ sentAs (Request.Write register value) (length (now (out .entry))) ⌝ }
+    ensures room { λ r. ⌜ now (out .exit) ≡ roomAfter r (Request.Write register value) (now (out .entry)) ⌝ }
+{
+    let number = fault_of_write(register, value);
+    if number != 0 {
+        return not_written(number);
+    }
+    set_frame(register, value, out)
+}
+
+// The refusal that a request meets before any room is looked at, or 0.
 fn fault_of_ask(opcode: u8) -> u8
     ensures { λ r. ⌜ r ≡ faultOf (Request.Ask opcode) ⌝ }
 {
@@ -94,7 +105,7 @@ fn fault_of_write(register: u8, value: i32) -> u8
     0
 }
 
-fn write_ask(opcode: u8, out: &mut [u8]) -> Written
+fn ask_frame(opcode: u8, out: &mut [u8]) -> Written
     ensures answer { λ r. ⌜ r ≡ writtenAs (Request.Ask opcode) (length (now (out .entry))) ⌝ }
     ensures room { λ r. ⌜ now (out .exit) ≡ roomAfter r (Request.Ask opcode) (now (out .entry)) ⌝ }
 {
@@ -107,7 +118,7 @@ fn write_ask(opcode: u8, out: &mut [u8]) -> Written
 }
 
 // The header, then the part for the data lent to their writer, then the part for checksum and end mark.
-fn write_set(register: u8, value: i32, out: &mut [u8]) -> Written
+fn set_frame(register: u8, value: i32, out: &mut [u8]) -> Written
     ensures answer { λ r. ⌜ r ≡ writtenAs (Request.Write register value) (length (now (out .entry))) ⌝ }
     ensures room { λ r. ⌜ now (out .exit) ≡ roomAfter r (Request.Write register value) (now (out .entry)) ⌝ }
 {

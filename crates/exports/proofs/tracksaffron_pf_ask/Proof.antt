@@ -8,8 +8,8 @@ use borrow.Author.Needs.{needs}
 use Rattle.exports.proofs.tracksaffron_pf_ask.Statement.{statement}
 use Rattle.exports.proofs.tracksaffron_pf_ask.Tie as tie
 
-write-request-requires : tie.Need-write-request-requires
-write-request-requires c κs = search needs
+write-ask-requires : tie.Need-write-ask-requires
+write-ask-requires c κs = search needs
 
 written-number-requires : tie.Need-written-number-requires
 written-number-requires c κs = search needs
@@ -20,9 +20,9 @@ same-length c = search needs
 returns : tie.Need-returns
 returns c =
     let a = c .before .before .before .before .before .before .args in
-    let e = c .before .before .before .write-request .ensures in
+    let e = c .before .before .before .write-ask .ensures in
     (c .written-number .ensures ∙ ap writtenCode (e .0), e .1 ∙ ap (λ w. roomAfter w (Ask (a .opcode)) (a .out .now)) (e .0))
 
 pub tracksaffron-pf-ask-spec : {M : Type 1} → statement M
 tracksaffron-pf-ask-spec =
-    tie.close (tie.spec write-request-requires written-number-requires same-length returns)
+    tie.close (tie.spec write-ask-requires written-number-requires same-length returns)

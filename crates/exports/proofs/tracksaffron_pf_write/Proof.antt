@@ -13,8 +13,8 @@ use borrow.Author.Needs.{needs}
 use Rattle.exports.proofs.tracksaffron_pf_write.Statement.{statement}
 use Rattle.exports.proofs.tracksaffron_pf_write.Tie as tie
 
-write-request-requires : tie.Need-write-request-requires
-write-request-requires c κs = search needs
+write-set-requires : tie.Need-write-set-requires
+write-set-requires c κs = search needs
 
 written-number-requires : tie.Need-written-number-requires
 written-number-requires c κs = search needs
@@ -26,13 +26,13 @@ returns : tie.Need-returns
 returns c =
     let a = c .before .before .before .before .before .before .args in
     let q = ap (Write (a .register)) (toZ-ofZ w32 (a .value) (c .before .before .before .before .before .before .fits .value)) in
-    let e = c .before .before .before .write-request .ensures in
+    let e = c .before .before .before .write-set .ensures in
     let s = e .0 ∙ ap (λ (x : Request). sentAs x (length (a .out .now))) q in (
       c .written-number .ensures ∙ ap writtenCode s,
-      e .1 ∙ ap (λ (x : Request). roomAfter (c .before .before .before .write-request .result) x (a .out .now)) q
+      e .1 ∙ ap (λ (x : Request). roomAfter (c .before .before .before .write-set .result) x (a .out .now)) q
           ∙ ap (λ (r : Written). roomAfter r (Write (a .register) (a .value)) (a .out .now)) s,
     )
 
 pub tracksaffron-pf-write-spec : {M : Type 1} → statement M
 tracksaffron-pf-write-spec =
-    tie.close (tie.spec write-request-requires written-number-requires same-length returns)
+    tie.close (tie.spec write-set-requires written-number-requires same-length returns)

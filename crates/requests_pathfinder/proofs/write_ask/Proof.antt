@@ -1,33 +1,43 @@
--- `requests_pathfinder::write_ask` meets its contract: header and end around no data, or nothing for lack of room.
+-- `requests_pathfinder::write_ask` meets its contract: a fault refuses and changes nothing; else the frame.
 -- Assumes nothing.
-use mathlib.Core.Path.{refl}
+use mathlib.Core.Path.{refl, _∙_}
 use Rattle.requests_pathfinder.specs.declared.Request.the-variants.{Ask}
-use Rattle.requests_pathfinder.proofs.Made.{no-room, frame-fits, ask-made}
+use Rattle.requests_pathfinder.proofs.Judged.{faulty, sound}
 use borrow.Author.Needs.{needs}
 use Rattle.requests_pathfinder.proofs.write_ask.Statement.{statement}
 use Rattle.requests_pathfinder.proofs.write_ask.Tie as tie
+
+fault-of-ask-requires : tie.Need-fault-of-ask-requires
+fault-of-ask-requires c κs = search needs
 
 not-written-requires : tie.Need-not-written-requires
 not-written-requires c κs = search needs
 
 returns : tie.Need-returns
-returns c = let a = c .before .before .before .args in rw (c .not-written .ensures) (no-room (Ask (a .opcode)) _ (search needs), refl)
+returns c =
+    let a = c .before .before .before .before .args in
+    rw (c .not-written .ensures) (faulty (Ask (a .opcode)) _ _ (c .before .before .fault-of-ask .ensures) (c .before .if1 .taken), refl)
 
-begin-requires : tie.Need-begin-requires
-begin-requires c κs = search needs
-
-seal-requires : tie.Need-seal-requires
-seal-requires c κs = search needs
+ask-frame-requires : tie.Need-ask-frame-requires
+ask-frame-requires c κs = search needs
 
 same-length : tie.Need-same-length
 same-length c = search needs
 
 returns-2 : tie.Need-returns-2
 returns-2 c =
-    let a = c .before .before .before .before .before .before .before .before .before .before .args in
-    (frame-fits (Ask (a .opcode)) _ (search needs), ask-made (a .opcode) _ _ _ (search needs) (c .before .before .before .before .before .before .begin .ensures) (c .before .before .seal .ensures))
+    let known = c .before .before .before .before .before in
+    let a = known .before .before .args in
+    let w = c .before .before .ask-frame in
+    (w .ensures .0 ∙ sound (Ask (a .opcode)) _ _ (known .fault-of-ask .ensures) (c .before .before .before .before .if1 .left), w .ensures .1)
 
 pub write-ask-spec : {M : Type 1} → statement M
 write-ask-spec =
     tie.close
-    (tie.spec not-written-requires returns begin-requires seal-requires same-length returns-2)
+    (tie.spec
+    fault-of-ask-requires
+    not-written-requires
+    returns
+    ask-frame-requires
+    same-length
+    returns-2)

@@ -1,25 +1,15 @@
--- `requests_pathfinder::write_request` meets its contract: a fault refuses and changes nothing; else the request's own writer.
+-- `requests_pathfinder::write_request` meets its contract: the writer of its kind of request.
 -- Assumes nothing.
-use mathlib.Core.Path.{refl, sym, ap, _∙_}
+use mathlib.Core.Path.{sym, ap, _∙_}
 use lib.ListN.{length}
 use mir.Syntax.{w32}
 use mir.ValLaws.{toZ-ofZ}
 use Rattle.requests_pathfinder.specs.declared.Request.{Request}
 use Rattle.requests_pathfinder.specs.declared.Request.the-variants.{Write}
-use Rattle.requests_pathfinder.specs.Requests.{writtenAs, roomAfter}
-use Rattle.requests_pathfinder.proofs.Judged.{faulty, sound}
+use Rattle.requests_pathfinder.specs.Requests.{sentAs, roomAfter}
 use borrow.Author.Needs.{needs}
 use Rattle.requests_pathfinder.proofs.write_request.Statement.{statement}
 use Rattle.requests_pathfinder.proofs.write_request.Tie as tie
-
-fault-requires : tie.Need-fault-requires
-fault-requires c κs = search needs
-
-not-written-requires : tie.Need-not-written-requires
-not-written-requires c κs = search needs
-
-returns : tie.Need-returns
-returns c = let a = c .before .before .before .before .args in rw (c .not-written .ensures) (faulty (a .q) _ _ (c .before .before .fault .ensures) (c .before .if1 .taken), refl)
 
 enum-known-q : tie.Need-enum-known-q
 enum-known-q c = search needs
@@ -36,41 +26,38 @@ write-set-requires c κs = search needs
 same-length : tie.Need-same-length
 same-length c = search needs
 
-returns-2 : tie.Need-returns-2
-returns-2 c =
-    let a = c .before .before .before .before .before .before .before .before .before .before .args in
+returns : tie.Need-returns
+returns c =
+    let a = c .before .before .before .before .before .before .before .before .args in
     let w = c .before .before .write-ask in
     let e = sym (c .before .before .before .before .before .q .given .1) in (
-      w .ensures .0 ∙ ap (λ (q : Request). writtenAs q (length (a .out .now))) e ∙ sound (a .q) _ _ (c .before .before .before .before .before .before .before .before .fault .ensures) (c .before .before .before .before .before .before .before .if1 .left),
-      w .ensures .1 ∙ ap (λ (q : Request). roomAfter (w .result) q (a .out .now)) e,
+      w .ensures .0 ∙ ap (λ (x : Request). sentAs x (length (a .out .now))) e,
+      w .ensures .1 ∙ ap (λ (x : Request). roomAfter (w .result) x (a .out .now)) e,
     )
 
 same-length-2 : tie.Need-same-length-2
 same-length-2 c = search needs
 
-returns-3 : tie.Need-returns-3
-returns-3 c =
-    let a = c .before .before .before .before .before .before .before .before .before .before .args in
+returns-2 : tie.Need-returns-2
+returns-2 c =
+    let a = c .before .before .before .before .before .before .before .before .args in
     let w = c .before .before .write-set in
     let q = c .before .before .before .before .before .q2 .given in
     let held = toZ-ofZ w32 (q .0 .1 .0) (search needs) in
     let e = ap (Write (q .0 .0)) held ∙ sym (q .1) in (
-      w .ensures .0 ∙ ap (λ (q : Request). writtenAs q (length (a .out .now))) e ∙ sound (a .q) _ _ (c .before .before .before .before .before .before .before .before .fault .ensures) (c .before .before .before .before .before .before .before .if1 .left),
-      w .ensures .1 ∙ ap (λ (q : Request). roomAfter (w .result) q (a .out .now)) e,
+      w .ensures .0 ∙ ap (λ (x : Request). sentAs x (length (a .out .now))) e,
+      w .ensures .1 ∙ ap (λ (x : Request). roomAfter (w .result) x (a .out .now)) e,
     )
 
 pub write-request-spec : {M : Type 1} → statement M
 write-request-spec =
     tie.close
     (tie.spec
-    fault-requires
-    not-written-requires
-    returns
     enum-known-q
     write-ask-requires
     enum-known-q-2
     write-set-requires
     same-length
-    returns-2
+    returns
     same-length-2
-    returns-3)
+    returns-2)

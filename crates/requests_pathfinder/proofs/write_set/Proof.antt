@@ -1,62 +1,55 @@
--- `requests_pathfinder::write_set` meets its contract: header, data and end, or nothing for lack of room.
+-- `requests_pathfinder::write_set` meets its contract: a fault refuses and changes nothing; else the frame.
 -- Assumes nothing.
-use mathlib.Core.Path.{refl, _∙_}
-use Rattle.requests_pathfinder.specs.declared.Request.the-variants.{Write}
-use Rattle.requests_pathfinder.proofs.Made.{no-room, frame-fits, set-made}
-use mathlib.Core.Path.{ap}
+use mathlib.Core.Path.{refl, ap, _∙_}
+use lib.ListN.{length}
 use mir.Syntax.{w32}
 use mir.ValLaws.{toZ-ofZ}
-use Rattle.requests_pathfinder.specs.Requests.{setLoad}
+use Rattle.requests_pathfinder.specs.declared.Request.{Request}
+use Rattle.requests_pathfinder.specs.declared.Request.the-variants.{Write}
+use Rattle.requests_pathfinder.specs.Requests.{faultOf, writtenAs, roomAfter}
+use Rattle.requests_pathfinder.proofs.Judged.{faulty, sound}
 use borrow.Author.Needs.{needs}
 use Rattle.requests_pathfinder.proofs.write_set.Statement.{statement}
 use Rattle.requests_pathfinder.proofs.write_set.Tie as tie
+
+fault-of-write-requires : tie.Need-fault-of-write-requires
+fault-of-write-requires c κs = search needs
 
 not-written-requires : tie.Need-not-written-requires
 not-written-requires c κs = search needs
 
 returns : tie.Need-returns
-returns c = let a = c .before .before .before .args in rw (c .not-written .ensures) (no-room (Write (a .register) (a .value)) _ (search needs), refl)
+returns c =
+    let start = c .before .before .before .before in
+    let a = start .args in
+    let q = ap (Write (a .register)) (toZ-ofZ w32 (a .value) (start .fits .value)) in
+    rw (c .not-written .ensures) (faulty (Write (a .register) (a .value)) _ _ (c .before .before .fault-of-write .ensures ∙ ap faultOf q) (c .before .if1 .taken), refl)
 
-begin-requires : tie.Need-begin-requires
-begin-requires c κs = search needs
-
-sub-put-set : tie.Need-sub-put-set
-sub-put-set c = search needs
-
-part-put-set-start : tie.Need-part-put-set-start
-part-put-set-start c = search needs
-
-part-put-set-end : tie.Need-part-put-set-end
-part-put-set-end c = search needs
-
-put-set-requires : tie.Need-put-set-requires
-put-set-requires c κs = search needs
-
-seal-requires : tie.Need-seal-requires
-seal-requires c κs = search needs
+set-frame-requires : tie.Need-set-frame-requires
+set-frame-requires c κs = search needs
 
 same-length : tie.Need-same-length
 same-length c = search needs
 
 returns-2 : tie.Need-returns-2
 returns-2 c =
-    let a = c .before .before .before .before .before .before .before .before .before .before .before .before .before .before .args in
-    let held = toZ-ofZ w32 (a .value) (c .before .before .before .before .before .before .before .before .before .before .before .before .before .before .fits .value) in (
-      frame-fits (Write (a .register) (a .value)) _ (search needs),
-      set-made (a .register) (a .value) _ _ _ _ (search needs) (c .before .before .before .before .before .before .before .before .before .before .begin .ensures) (c .before .before .before .before .before .before .put-set .ensures ∙ ap (setLoad (a .register)) held) (c .before .before .seal .ensures),
+    let known = c .before .before .before .before .before in
+    let start = known .before .before in
+    let a = start .args in
+    let w = c .before .before .set-frame in
+    let q = ap (Write (a .register)) (toZ-ofZ w32 (a .value) (start .fits .value)) in (
+      w .ensures .0 ∙ ap (λ (x : Request). writtenAs x (length (a .out .now))) q
+          ∙ sound (Write (a .register) (a .value)) _ _ (known .fault-of-write .ensures ∙ ap faultOf q) (c .before .before .before .before .if1 .left),
+      w .ensures .1 ∙ ap (λ (x : Request). roomAfter (w .result) x (a .out .now)) q,
     )
 
 pub write-set-spec : {M : Type 1} → statement M
 write-set-spec =
     tie.close
     (tie.spec
+    fault-of-write-requires
     not-written-requires
     returns
-    begin-requires
-    sub-put-set
-    part-put-set-start
-    part-put-set-end
-    put-set-requires
-    seal-requires
+    set-frame-requires
     same-length
     returns-2)
