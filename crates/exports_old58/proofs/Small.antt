@@ -1,7 +1,7 @@
 -- What 001's bytes can count to is below 2 ^ 31: three bytes are below 2 ^ 24, and a voltage is five times what its bytes count.
 -- Assumes nothing.
 use mathlib.Core.List.{List}
-use Prim.Native.Nat.{ℕ, _+_, _-_, _*_, _<_}
+use Prim.Native.Nat.{ℕ, _+_, _-_, _<_}
 use native.Mathlib.Omega.{arith}
 use lib.ListN.{getD}
 use mir.Syntax.{w8}

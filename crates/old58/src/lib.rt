@@ -103,10 +103,10 @@ pub fn read_record(s: &[u8]) -> Reading
 pub fn judge(s: &[u8]) -> Judged
     ensures { λ r. ⌜ r ≡ judgedOf (now (s .entry)) ⌝ }
 {
-    let sum = front_sum(s);
     if s.len() < 58 {
         return Judged::Refused(refuse(refusals::SHORT));
     }
+    let sum = front_sum(s);
     if 58 < s.len() {
         return Judged::Refused(refuse(refusals::LENGTH));
     }
@@ -119,14 +119,12 @@ pub fn judge(s: &[u8]) -> Judged
     Judged::Sound
 }
 
-// The sum of all bytes but the last. It is taken before the length is tested: a sum of 57 bytes would be unrolled whole, with the
-// record then put together from the registers that it fills, at twice the time.
+// The sum of all bytes but the last. It is taken before more than 58 bytes are refused: a sum of 57 bytes, no more and no fewer, would be
+// unrolled whole, with the record then put together from the registers that it fills, at twice the time.
 fn front_sum(s: &[u8]) -> u8
+    requires { ⌜ 58 ≤ length (now s) ⌝ }
     ensures { λ r. ⌜ r ≡ total (take (length (now (s .entry)) - 1) (now (s .entry))) % 256 ⌝ }
 {
-    if s.len() == 0 {
-        return 0;
-    }
     let n = s.len() - 1;
     sum256(&s[0..n])
 }

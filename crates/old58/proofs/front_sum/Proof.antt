@@ -1,4 +1,4 @@
--- `old58::front_sum` meets its contract: no byte sums to 0, and else the part that is summed is all but the last byte.
+-- `old58::front_sum` meets its contract: the part that is summed is all but the last byte.
 -- Assumes nothing.
 use Prim.Native.Nat.{ℕ, _-_, _%_}
 use mathlib.Core.Path.{_≡_, ap, _∙_}
@@ -8,13 +8,6 @@ use Rattle.checks.specs.Sums.{total}
 use borrow.Author.Needs.{needs}
 use Rattle.old58.proofs.front_sum.Statement.{statement}
 use Rattle.old58.proofs.front_sum.Tie as tie
-
-returns : tie.Need-returns
-unfolding total
-returns c =
-    let s = c .before .before .args .s .now in
-    let e : length s - 1 ≡ 0 = omega arith in
-    rw e
 
 sub-n : tie.Need-sub-n
 sub-n c = search needs
@@ -31,13 +24,13 @@ part-sum256-end c = search needs
 sum256-requires : tie.Need-sum256-requires
 sum256-requires c κs = search needs
 
-returns-2 : tie.Need-returns-2
-returns-2 c =
-    let s = c .before .before .before .before .args .s .now in
+returns : tie.Need-returns
+returns c =
+    let s = c .before .before .before .args .s .now in
     let k : length s - 1 - 0 ≡ length s - 1 = omega arith in
     c .sum256 .ensures ∙ ap (λ (n : ℕ). total (take n s) % 256) k
 
 pub front-sum-spec : {M : Type 1} → statement M
 front-sum-spec =
     tie.close
-    (tie.spec returns sub-n sub-sum256 part-sum256-start part-sum256-end sum256-requires returns-2)
+    (tie.spec sub-n sub-sum256 part-sum256-start part-sum256-end sum256-requires returns)
