@@ -120,7 +120,7 @@ pub fn judge(s: &[u8]) -> Judged
 }
 
 // The sum of all bytes but the last. It is taken before more than 58 bytes are refused: a sum of 57 bytes, no more and no fewer, would be
-// unrolled whole, with the record then put together from the registers that it fills, at twice the time.
+// unrolled whole, and the record put together from the registers that it fills, which is slower.
 fn front_sum(s: &[u8]) -> u8
     requires { ⌜ 58 ≤ length (now s) ⌝ }
     ensures { λ r. ⌜ r ≡ total (take (length (now (s .entry)) - 1) (now (s .entry))) % 256 ⌝ }
