@@ -9,7 +9,7 @@ use lib.IntN.{ℤ, pos, _-ℤ_}
 use lib.ListN.{getD, drop, replicate}
 use Rattle.laws.specs.Choice.{pick}
 use Rattle.laws.specs.Firsts.{firsts}
-use Rattle.numbers.specs.Signed.{signedOf}
+use Rattle.signs.specs.Signed.{signedOf}
 use Rattle.refusals.specs.Refused.{refusedWith, shape}
 use Rattle.characters_pace.specs.Characters.{wordAt, wordsAt}
 use Rattle.counts_pace.specs.declared.Counts.{Counts}

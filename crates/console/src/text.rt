@@ -250,15 +250,15 @@ pub fn from_usize(v: usize) -> u64 {
 }
 
 pub fn from_i8(v: i8) -> u64 {
-    extended(numbers::bits8(v) as u64, 0x80)
+    extended(signs::bits8(v) as u64, 0x80)
 }
 
 pub fn from_i16(v: i16) -> u64 {
-    extended(numbers::bits16(v) as u64, 0x8000)
+    extended(signs::bits16(v) as u64, 0x8000)
 }
 
 pub fn from_i32(v: i32) -> u64 {
-    extended(numbers::bits32(v) as u64, 0x80000000)
+    extended(signs::bits32(v) as u64, 0x80000000)
 }
 
 // A number in two's complement, whose sign has this place value, in 64 bits.
@@ -292,11 +292,11 @@ pub fn half_of(v: u64) -> u16 {
 }
 
 pub fn short_of(v: u64) -> i16 {
-    numbers::signed16(half_of(v))
+    signs::signed16(half_of(v))
 }
 
 pub fn word_of(v: u64) -> i32 {
-    numbers::signed32((v % 4294967296) as u32)
+    signs::signed32((v % 4294967296) as u32)
 }
 
 // A number of places, no more than there are.

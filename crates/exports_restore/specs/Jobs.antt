@@ -10,7 +10,7 @@ use lib.ListN.{length, getD, take, drop}
 use Rattle.laws.specs.Choice.{pick}
 use Rattle.numbers.specs.declared.Order.the-variants.{LowFirst}
 use Rattle.numbers.specs.Bytes.{bytesOf}
-use Rattle.numbers.specs.Signed.{bitsOf}
+use Rattle.signs.specs.Signed.{bitsOf}
 use Rattle.records_pathfinder.specs.Words.{words}
 use Rattle.restore_pathfinder.specs.declared.Phase.{Phase}
 use Rattle.restore_pathfinder.specs.declared.Phase.the-variants.{Ready, Waiting, Stopped}

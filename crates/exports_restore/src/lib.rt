@@ -2,7 +2,6 @@
 // is one of `restore_pathfinder` on the job in them. `specs/Jobs.antt` says how a job stands in its bytes, `specs/Steps.antt` what each call answers.
 use exports_rows::coded;
 use numbers::Order;
-use numbers::bits32;
 use numbers::bytes32;
 use records_pathfinder::word;
 use restore_pathfinder::Answer;
@@ -14,6 +13,7 @@ use restore_pathfinder::Outcome;
 use restore_pathfinder::Phase;
 use restore_pathfinder::Step;
 use restore_pathfinder::Stepped;
+use signs::bits32;
 ghost use mathlib.Core.Path.{_≡_};
 ghost use Prim.Native.Nat.{_*_};
 ghost use mathlib.Core.List.{_++_};

@@ -7,7 +7,7 @@ use lib.ListN.{getD, drop, replicate}
 use Rattle.laws.specs.Firsts.{firsts}
 use Rattle.numbers.specs.declared.Order.the-variants.{LowFirst}
 use Rattle.numbers.specs.Bytes.{numberOf}
-use Rattle.numbers.specs.Signed.{signedOf}
+use Rattle.signs.specs.Signed.{signedOf}
 use Rattle.monitor3_tongzhu.specs.declared.Status.{Status}
 
 -- a number of two bytes

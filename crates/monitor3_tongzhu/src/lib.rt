@@ -2,10 +2,10 @@
 // its payload's first byte on. No other place says how these fields lie.
 use numbers::Order;
 use numbers::number16;
-use numbers::signed8;
-use numbers::signed16;
 use refusals::Refusal;
 use refusals::refuse;
+use signs::signed8;
+use signs::signed16;
 ghost use mathlib.Core.Path.{_≡_};
 ghost use Prim.Native.Nat.{_+_, _*_, _<_, _≤_};
 ghost use lib.ListN.{length, getD};

@@ -6,7 +6,7 @@ use lib.IntN.{ℤ}
 use lib.ListN.{getD}
 use Rattle.numbers.specs.declared.Order.the-variants.{LowFirst}
 use Rattle.numbers.specs.Bytes.{numberOf}
-use Rattle.numbers.specs.Signed.{signedOf}
+use Rattle.signs.specs.Signed.{signedOf}
 
 -- the number of four bytes
 abbrev pub wordOf : ℕ → ℕ → ℕ → ℕ → ℤ

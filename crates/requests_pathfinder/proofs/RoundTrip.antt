@@ -18,9 +18,9 @@ use Rattle.refusals.specs.declared.Refusal.{Refusal}
 use Rattle.refusals.specs.Refused.{refusedWith, shape, request, range, register}
 use Rattle.numbers.specs.declared.Order.the-variants.{LowFirst}
 use Rattle.numbers.specs.Bytes.{numberOf, bytesOf}
-use Rattle.numbers.specs.Signed.{signedOf, bitsOf}
+use Rattle.signs.specs.Signed.{signedOf, bitsOf}
 use Rattle.numbers.proofs.Orders.{Bytes, written-reads-back, read-writes-back}
-use Rattle.numbers.proofs.Signs.{bits-read-back, signed-written-back}
+use Rattle.signs.proofs.Signs.{bits-read-back, signed-written-back}
 use Rattle.frames_pathfinder.specs.declared.Frame.{Frame}
 use Rattle.frames_pathfinder.specs.declared.Frame.the-variants.{Whole, Refused as NoFrame}
 use Rattle.frames_pathfinder.specs.Reading.{frameOf}

@@ -12,7 +12,7 @@ use Rattle.refusals.specs.declared.Written.the-variants.{Frame, Refused}
 use Rattle.refusals.specs.Refused.{refusedWith, request, shape, range, register, room}
 use Rattle.numbers.specs.declared.Order.the-variants.{LowFirst}
 use Rattle.numbers.specs.Bytes.{bytesOf}
-use Rattle.numbers.specs.Signed.{bitsOf}
+use Rattle.signs.specs.Signed.{bitsOf}
 use Rattle.frames_pathfinder.specs.Writing.{frameBytes}
 use Rattle.registers_pathfinder.specs.Registers.{count, inRange}
 use Rattle.requests_pathfinder.specs.declared.Request.{Request}

@@ -15,7 +15,7 @@ use Rattle.refusals.specs.declared.Written.{Written}
 use Rattle.refusals.specs.declared.Written.the-variants.{Frame as HasFrame, Refused as NoFrame}
 use Rattle.numbers.specs.declared.Order.the-variants.{LowFirst}
 use Rattle.numbers.specs.Bytes.{bytesOf}
-use Rattle.numbers.specs.Signed.{bitsOf}
+use Rattle.signs.specs.Signed.{bitsOf}
 use Rattle.frames_pathfinder.specs.Writing.{frameBytes}
 use Rattle.registers_pathfinder.specs.Registers.{count, lows, highs, within, inRange}
 use Rattle.requests_pathfinder.specs.declared.Request.the-variants.{Write}

@@ -6,7 +6,7 @@ use lib.Dec.{eqb}
 use lib.IntN.{ℤ, pos, _*ℤ_}
 use Rattle.laws.specs.Choice.{pick}
 use Rattle.refusals.specs.Refused.{refusedWith, request, shape}
-use Rattle.numbers.specs.Signed.{signedOf, bitsOf}
+use Rattle.signs.specs.Signed.{signedOf, bitsOf}
 use Rattle.rows_pathfinder.specs.declared.TenMillivolts.{TenMillivolts as Tens}
 use Rattle.rows_pathfinder.specs.declared.Millivolts.{Millivolts}
 use Rattle.rows_pathfinder.specs.declared.Row.{Row}

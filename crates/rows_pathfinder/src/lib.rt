@@ -1,17 +1,17 @@
 // The rows of Pathfinder replies 01 to 04 (000, data definitions; 01, Pathfinder): a word narrowed to its row's type.
-use numbers::bits32;
-use numbers::signed8;
-use numbers::signed16;
-use numbers::signed32;
 use refusals::Refusal;
 use refusals::refuse;
+use signs::bits32;
+use signs::signed8;
+use signs::signed16;
+use signs::signed32;
 ghost use mathlib.Core.Path.{_≡_};
 ghost use mathlib.Core.Bool.{_&&_, _||_};
 ghost use Prim.Native.Nat.{_-_, _%_, _<_};
 ghost use lib.Dec.{eqb};
 ghost use lib.IntN.{pos};
 ghost use Rattle.refusals.specs.Refused.{refusedWith};
-ghost use Rattle.numbers.specs.Signed.{signedOf};
+ghost use Rattle.signs.specs.Signed.{signedOf};
 ghost use Rattle.rows_pathfinder.specs.Types.{wordsAt, listedAt, settings, infos, typeAt};
 ghost use Rattle.rows_pathfinder.specs.Narrowing.{millivoltsOf, numberRow, tenRow, byBits, rowOf};
 

@@ -7,7 +7,7 @@ use lib.Dec.{eqb}
 use lib.IntN.{ℤ, pos, negsuc}
 use lib.ListN.{length, getD}
 use Rattle.laws.specs.Choice.{pick}
-use Rattle.numbers.specs.Signed.{signedOf}
+use Rattle.signs.specs.Signed.{signedOf}
 use Rattle.refusals.specs.Refused.{refusedWith, shape, range}
 use Rattle.characters_pace.specs.Characters.{allOf, wordsAt}
 use Rattle.rows_pace.specs.declared.Setting.{Setting}

@@ -2,7 +2,6 @@
 // INFO comes as characters; what is said of it is said of the bytes that they carry.
 use characters_pace::byte_of;
 use characters_pace::words_of;
-use numbers::signed16;
 use refusals::Refusal;
 use refusals::refuse;
 use rows_pace::Row;
@@ -11,6 +10,7 @@ use rows_pace::Values;
 use rows_pace::may_write;
 use rows_pace::row_of;
 use rows_pace::values_of;
+use signs::signed16;
 ghost use mathlib.Core.Path.{_≡_};
 ghost use mathlib.Core.List.{map};
 ghost use Prim.Native.Nat.{_≤_};

@@ -62,7 +62,7 @@ fn field(name: &[u8], n: u64) {
 // The same of a number that may be negative: its 16 bits say whether it is.
 fn signed_field(name: &[u8], v: i16) {
     put(name);
-    let n = numbers::bits16(v) as u64;
+    let n = signs::bits16(v) as u64;
     if n < 32768 {
         field(b"", n);
     } else {

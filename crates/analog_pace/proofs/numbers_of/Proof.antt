@@ -3,7 +3,7 @@
 use mathlib.Core.Path.{_≡_, ap, _∙_}
 use mir.Syntax.{w16}
 use mir.Val.{toZ, ofZ}
-use Rattle.numbers.specs.Signed.{signedOf}
+use Rattle.signs.specs.Signed.{signedOf}
 use Rattle.analog_pace.specs.Analog.{numbersOf}
 use borrow.Author.Needs.{needs}
 use Rattle.analog_pace.proofs.numbers_of.Statement.{statement}

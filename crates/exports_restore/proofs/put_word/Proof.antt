@@ -8,7 +8,7 @@ use mir.Syntax.{w32}
 use mir.ValLaws.{toZ-ofZ}
 use Rattle.numbers.specs.declared.Order.the-variants.{LowFirst}
 use Rattle.numbers.specs.Bytes.{bytesOf}
-use Rattle.numbers.specs.Signed.{bitsOf}
+use Rattle.signs.specs.Signed.{bitsOf}
 use Rattle.exports_restore.specs.Jobs.{valueBytes}
 use Rattle.frames_pathfinder.proofs.Writers.{all-of}
 use borrow.Author.Needs.{needs}

@@ -6,7 +6,7 @@ use borrow.Author.Needs.{needs}
 use mir.Syntax.{w16}
 use mir.ValLaws.{toZ-ofZ}
 use Rattle.monitor3_tongzhu.proofs.Shapes.{monitor3-is}
-use Rattle.numbers.specs.Signed.{signedOf}
+use Rattle.signs.specs.Signed.{signedOf}
 use Rattle.monitor3_tongzhu.proofs.monitor3_of.Statement.{statement}
 use Rattle.monitor3_tongzhu.proofs.monitor3_of.Tie as tie
 

@@ -3,7 +3,7 @@
 use mathlib.Core.Path.{_≡_, ap, _∙_}
 use mir.Syntax.{w32}
 use mir.Val.{toZ, ofZ}
-use Rattle.numbers.specs.Signed.{signedOf}
+use Rattle.signs.specs.Signed.{signedOf}
 use borrow.Author.Needs.{needs}
 use Rattle.records_pathfinder.proofs.word.Statement.{statement}
 use Rattle.records_pathfinder.proofs.word.Tie as tie

@@ -4,7 +4,7 @@ use mathlib.Core.Path.{refl, ap, _∙_}
 use borrow.Author.Needs.{needs}
 use mir.Syntax.{w8, w16}
 use mir.ValLaws.{toZ-ofZ}
-use Rattle.numbers.specs.Signed.{signedOf}
+use Rattle.signs.specs.Signed.{signedOf}
 use Rattle.records_tongzhu.proofs.Answers.{monitor2-is}
 use Rattle.records_tongzhu.proofs.monitor2_of.Statement.{statement}
 use Rattle.records_tongzhu.proofs.monitor2_of.Tie as tie

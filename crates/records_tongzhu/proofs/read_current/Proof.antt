@@ -4,7 +4,7 @@ use mathlib.Core.Path.{ap, _∙_}
 use borrow.Author.Needs.{needs}
 use mir.Syntax.{w16}
 use mir.ValLaws.{toZ-ofZ}
-use Rattle.numbers.specs.Signed.{signedOf}
+use Rattle.signs.specs.Signed.{signedOf}
 use Rattle.records_tongzhu.proofs.Answers.{wrong-size, right-size}
 use Rattle.records_tongzhu.specs.declared.Answer.the-variants as is
 use Rattle.records_tongzhu.proofs.read_current.Statement.{statement}

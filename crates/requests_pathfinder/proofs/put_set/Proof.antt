@@ -7,7 +7,7 @@ use native.Mathlib.Omega.{arith}
 use lib.ListN.{getD, length-set}
 use mir.Syntax.{w32}
 use mir.ValLaws.{toZ-ofZ}
-use Rattle.numbers.specs.Signed.{bitsOf}
+use Rattle.signs.specs.Signed.{bitsOf}
 use Rattle.numbers.specs.Bytes.{bytesOf}
 use Rattle.numbers.specs.declared.Order.the-variants.{LowFirst}
 use Rattle.frames_pathfinder.proofs.Writers.{all-of}

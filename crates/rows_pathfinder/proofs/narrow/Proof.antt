@@ -5,7 +5,7 @@ use mathlib.Core.Path.{ap, ap₂, _∙_}
 use lib.Dec.{eqb}
 use mir.Syntax.{w32}
 use mir.ValLaws.{toZ-ofZ}
-use Rattle.numbers.specs.Signed.{bitsOf}
+use Rattle.signs.specs.Signed.{bitsOf}
 use Rattle.rows_pathfinder.specs.Narrowing.{byBits, rowOf}
 use borrow.Author.Needs.{needs}
 use Rattle.rows_pathfinder.proofs.narrow.Statement.{statement}

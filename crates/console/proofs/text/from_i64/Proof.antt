@@ -3,7 +3,7 @@
 use native.Mathlib.Omega.{arith}
 use mir.Syntax.{w64}
 use mir.ValLaws.{toZ-ofZ}
-use Rattle.numbers.proofs.Signs.{up-cast, down-cast, down}
+use Rattle.signs.proofs.Signs.{up-cast, down-cast, down}
 use borrow.Author.Needs.{needs}
 use Rattle.console.proofs.text.from_i64.Statement.{statement}
 use Rattle.console.proofs.text.from_i64.Tie as tie
