@@ -1,4 +1,3 @@
-pub mod Closing
 pub mod Damage
 pub mod Linear
 pub mod Moves

@@ -1,11 +1,8 @@
-// Checks: CRC-16/XMODEM over bytes (000, Checksum), and the sums that close to zero (01, Tongzhu: modulo 256;
-// 01, PACE: modulo 65,536).
-use std::num::wrapping_add_u32;
+// The checksum: CRC-16/XMODEM over bytes (000, Checksum; 01, Pathfinder).
 ghost use mathlib.Core.Path.{_≡_};
 ghost use Prim.Native.Nat.{_%_, _<_};
 ghost use lib.ListN.{length, take};
 ghost use Rattle.checks.specs.Crc.{shifts, crcStep, crcFrom, crcOf};
-ghost use Rattle.checks.specs.Sums.{total, closing, closes};
 
 // The checksum of the bytes.
 pub fn crc16(s: &[u8]) -> u16
@@ -63,51 +60,4 @@ fn eight(x: u16) -> u16
 {
     let y = (x / 256) ^ (x / 4096);
     (x % 256 * 256) ^ y ^ (y % 256 * 32) ^ (y % 16 * 4096)
-}
-
-// The byte that brings the sum of the bytes to 0 modulo 256.
-pub fn close256(s: &[u8]) -> u8
-    ensures { λ r. ⌜ r ≡ closing 256 (total (now (s .entry))) ⌝ }
-{
-    ((256 - sum_low(s) % 256) % 256) as u8
-}
-
-// The number that brings the sum of the bytes to 0 modulo 65,536.
-pub fn close65536(s: &[u8]) -> u16
-    ensures { λ r. ⌜ r ≡ closing 65536 (total (now (s .entry))) ⌝ }
-{
-    ((65536 - sum_low(s) % 65536) % 65536) as u16
-}
-
-// Whether the bytes and their check sum to 0 modulo 65,536.
-pub fn closes65536(s: &[u8], check: u16) -> bool
-    ensures { λ r. ⌜ r ≡ closes 65536 (total (now (s .entry))) check ⌝ }
-{
-    (sum_low(s) + check as u32) % 65536 == 0
-}
-
-// The low byte of the sum of the bytes: 0 for a whole Tongzhu frame (01, Tongzhu), the check of the 58-byte monitor (001, byte 58).
-pub fn sum256(s: &[u8]) -> u8
-    ensures { λ r. ⌜ r ≡ total (now (s .entry)) % 256 ⌝ }
-{
-    (sum_low(s) % 256) as u8
-}
-
-// The low 16 bits of the sum of the bytes, which both moduli divide. A plain sum is added up several bytes at a time.
-fn sum_low(s: &[u8]) -> u32
-    ensures { λ r. ⌜ r ≡ total (now (s .entry)) % 65536 ⌝ }
-{
-    let mut t: u32 = 0;
-    let mut i = 0;
-    while i < s.len() {
-        t = wrapping_add_u32(t, wide(s[i]));
-        i += 1;
-    }
-    t % 65536
-}
-
-fn wide(x: u8) -> u32
-    ensures { λ r. ⌜ r ≡ x ⌝ }
-{
-    x as u32
 }

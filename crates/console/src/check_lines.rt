@@ -17,8 +17,8 @@ fn checked(k: usize, bytes: &[u8], len: u64, out: &mut [u8], at: usize) -> usize
     let s = &bytes[0..n];
     match k {
         0 => put_sum(out, at, b"ok crc %%\n", checks::crc16(s)),
-        1 => put_sum(out, at, b"ok sum8 %\n", checks::close256(s) as u16 * 256),
-        _ => put_sum(out, at, b"ok sum16 %%\n", checks::close65536(s)),
+        1 => put_sum(out, at, b"ok sum8 %\n", sums::close256(s) as u16 * 256),
+        _ => put_sum(out, at, b"ok sum16 %%\n", sums::close65536(s)),
     }
 }
 

@@ -6,8 +6,8 @@ use Prim.Native.Nat.{ℕ, _+_, _*_, _/_, _%_, _<_}
 use native.Mathlib.Omega.{arith}
 use lib.Dec.{lit<}
 use Rattle.laws.specs.Choice.{pick}
-use Rattle.checks.specs.Sums.{closing, closes}
-use Rattle.checks.proofs.Closing.{closing-lt, test-closing, test-only}
+use Rattle.sums.specs.Sums.{closing, closes}
+use Rattle.sums.proofs.Closing.{closing-lt, test-closing, test-only}
 use Rattle.digits.specs.declared.Length.the-variants.{Is, Wrong}
 use Rattle.digits.specs.Lengths.{lowDigits, lengthWord, countOf}
 

@@ -3,7 +3,7 @@
 use Prim.Native.Nat.{ℕ, _+_, _*_, _/_, _%_}
 use lib.Dec.{ltb}
 use Rattle.laws.specs.Choice.{pick}
-use Rattle.checks.specs.Sums.{closing, closes}
+use Rattle.sums.specs.Sums.{closing, closes}
 use Rattle.digits.specs.declared.Length.{Length}
 use Rattle.digits.specs.declared.Length.the-variants.{Is, Wrong}
 

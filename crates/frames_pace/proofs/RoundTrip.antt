@@ -9,8 +9,8 @@ use lib.Dec.{lit<}
 use lib.ListN.{length, getD, take, drop}
 use Rattle.laws.specs.Firsts.{firsts}
 use Rattle.laws.proofs.Firsts.{listed}
-use Rattle.checks.specs.Sums.{total, closing, closes}
-use Rattle.checks.proofs.Closing.{closing-lt, test-closing, test-only}
+use Rattle.sums.specs.Sums.{total, closing, closes}
+use Rattle.sums.proofs.Closing.{closing-lt, test-closing, test-only}
 use Rattle.digits.specs.declared.Length.the-variants.{Is}
 use Rattle.digits.specs.Hexes.{digitOf}
 use Rattle.digits.specs.Lengths.{lowDigits, lengthWord, countOf}

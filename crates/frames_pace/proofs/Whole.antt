@@ -9,7 +9,7 @@ use borrow.Author.Tests.{ltb-false, eqb-true}
 use lib.Dec.{ltb, eqb}
 use lib.ListN.{length, getD, take, drop}
 use Rattle.laws.proofs.Ladders.{past, into, both}
-use Rattle.checks.specs.Sums.{total, closes}
+use Rattle.sums.specs.Sums.{total, closes}
 use Rattle.digits.specs.declared.Length.{Length}
 use Rattle.digits.specs.declared.Length.the-variants.{Is, Wrong}
 use Rattle.digits.specs.Lengths.{countOf}

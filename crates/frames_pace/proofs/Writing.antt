@@ -11,7 +11,7 @@ use lib.Seq.{take-at, drop-drop, drop-append-add, length-take-le}
 use lib.Dec.{ltb}
 use Rattle.laws.proofs.Filling.{one-more, part-more, part-length}
 use Rattle.laws.proofs.Ladders.{past}
-use Rattle.checks.specs.Sums.{total, closing}
+use Rattle.sums.specs.Sums.{total, closing}
 use Rattle.digits.specs.declared.Length.the-variants.{Is, Wrong}
 use Rattle.digits.specs.Lengths.{wordOf, lengthWord}
 use Rattle.numbers.specs.declared.Order.the-variants.{HighFirst}

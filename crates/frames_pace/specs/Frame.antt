@@ -7,7 +7,7 @@ use Prim.Native.Nat.{ℕ, _-_}
 use lib.Dec.{ltb, eqb}
 use lib.ListN.{length, getD, take, drop}
 use Rattle.laws.specs.Choice.{pick}
-use Rattle.checks.specs.Sums.{total, closes}
+use Rattle.sums.specs.Sums.{total, closes}
 use Rattle.digits.specs.declared.Length.{Length}
 use Rattle.digits.specs.declared.Length.the-variants.{Is, Wrong}
 use Rattle.digits.specs.Lengths.{countOf}

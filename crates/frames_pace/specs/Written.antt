@@ -5,7 +5,7 @@ use Prim.Native.Nat.{ℕ, _+_, _*_}
 use lib.Dec.{ltb}
 use lib.ListN.{length, take, drop}
 use Rattle.laws.specs.Choice.{pick}
-use Rattle.checks.specs.Sums.{total, closing}
+use Rattle.sums.specs.Sums.{total, closing}
 use Rattle.digits.specs.Lengths.{lengthWord}
 use Rattle.numbers.specs.declared.Order.the-variants.{HighFirst}
 use Rattle.numbers.specs.Bytes.{bytesOf}

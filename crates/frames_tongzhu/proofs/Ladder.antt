@@ -12,8 +12,8 @@ use lib.Seq.{getD-take, length-take-le, take-all, take-suc}
 use Rattle.laws.proofs.Ladders.{past, into, both}
 use Rattle.refusals.specs.declared.Refusal.{Refusal}
 use Rattle.refusals.specs.Refused.{refusedWith, short, firstMark, lengths, checksum, address}
-use Rattle.checks.specs.Sums.{total, closes}
-use Rattle.checks.proofs.Closing.{total-at}
+use Rattle.sums.specs.Sums.{total, closes}
+use Rattle.sums.proofs.Closing.{total-at}
 use Rattle.frames_tongzhu.specs.declared.Frame.the-variants.{Whole, Refused}
 use Rattle.frames_tongzhu.specs.Reading.{checked, check, frameOf}
 

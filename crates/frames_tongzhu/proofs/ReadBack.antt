@@ -11,8 +11,8 @@ use lib.ListN.{length, getD, take, drop, length-append, length-drop, drop-of-len
 use lib.Seq.{take-at, getD-at, take-add, take-append-seam, length-take-le, split-at}
 use Rattle.laws.proofs.Entries.{entries}
 use Rattle.laws.proofs.Fronts.{front}
-use Rattle.checks.specs.Sums.{total, closing, closes}
-use Rattle.checks.proofs.Closing.{test-closing, test-only}
+use Rattle.sums.specs.Sums.{total, closing, closes}
+use Rattle.sums.proofs.Closing.{test-closing, test-only}
 use Rattle.frames_tongzhu.specs.declared.Frame.the-variants.{Whole}
 use Rattle.frames_tongzhu.specs.Reading.{checked, check, frameOf}
 use Rattle.frames_tongzhu.specs.Writing.{headOf, bodyOf, frameBytes}

@@ -9,7 +9,7 @@ use native.Mathlib.Omega.{arith}
 use lib.ListN.{length, take, drop, set, length-append, length-drop}
 use lib.Seq.{sets-eq, set-split, take-at, drop-append-add, drop-drop}
 use Rattle.laws.proofs.Fitting.{fitting}
-use Rattle.checks.specs.Sums.{total, closing}
+use Rattle.sums.specs.Sums.{total, closing}
 use Rattle.frames_tongzhu.specs.Writing.{headOf, bodyOf, frameBytes, fits, begun, sealed}
 
 module _ (len : ℕ) (out : List ℕ) where

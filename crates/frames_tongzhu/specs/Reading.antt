@@ -7,7 +7,7 @@ use lib.ListN.{length, getD, take}
 use lib.Dec.{ltb, eqb}
 use Rattle.laws.specs.Choice.{pick}
 use Rattle.refusals.specs.Refused.{refusedWith, short, firstMark, lengths, checksum, address}
-use Rattle.checks.specs.Sums.{total, closes}
+use Rattle.sums.specs.Sums.{total, closes}
 use Rattle.frames_tongzhu.specs.declared.Frame.{Frame}
 use Rattle.frames_tongzhu.specs.declared.Frame.the-variants.{Whole, Refused}
 

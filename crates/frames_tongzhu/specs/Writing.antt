@@ -6,7 +6,7 @@ use mathlib.Core.List.{List, [], _∷_, _++_}
 use lib.ListN.{length, take, drop}
 use lib.Dec.{leb}
 use Rattle.laws.specs.Choice.{pick}
-use Rattle.checks.specs.Sums.{total, closing}
+use Rattle.sums.specs.Sums.{total, closing}
 
 -- SOI, ADD, VER, LEN and FUN of a frame with so many bytes of payload
 abbrev pub headOf : ℕ → ℕ → List ℕ

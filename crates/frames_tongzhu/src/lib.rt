@@ -1,9 +1,9 @@
 // Tongzhu frames (002, 4; 01, Tongzhu): 7F, 10, 02, LEN, FUN, MSG, check. LEN counts the whole frame, 6 to 255, and all bytes
 // with the check sum to 0 modulo 256. Also which functions there are.
-use checks::close256;
-use checks::sum256;
 use refusals::Refusal;
 use refusals::refuse;
+use sums::close256;
+use sums::sum256;
 ghost use mathlib.Core.Path.{_≡_};
 ghost use Rattle.refusals.specs.Refused.{refusedWith};
 ghost use Rattle.frames_tongzhu.specs.Functions.{kindOf};

@@ -7,7 +7,7 @@ use Prim.Native.Nat.{ℕ, _%_, _<_, _≤_}
 use borrow.Author.Tests.{lt-ltb, le-ltb, lt-leb, le-leb, eq-eqb, ne-eqb}
 use lib.Dec.{leb}
 use lib.ListN.{length, getD, take}
-use Rattle.checks.specs.Sums.{total}
+use Rattle.sums.specs.Sums.{total}
 use Rattle.refusals.specs.Refused.{refusedWith, short, lengths, checksum, range}
 use Rattle.old58.specs.declared.Judged.the-variants.{Sound, Refused}
 use Rattle.old58.specs.Record.{byteAt}

@@ -7,7 +7,7 @@ use Prim.Native.Nat.{ℕ, _%_}
 use lib.Dec.{ltb, leb, eqb}
 use lib.ListN.{length, take}
 use Rattle.laws.specs.Choice.{pick}
-use Rattle.checks.specs.Sums.{total}
+use Rattle.sums.specs.Sums.{total}
 use Rattle.refusals.specs.Refused.{refusedWith, short, lengths, checksum, range}
 use Rattle.old58.specs.declared.Reading.{Reading}
 use Rattle.old58.specs.declared.Reading.the-variants.{Whole, Refused as NoRecord}

@@ -1,15 +1,15 @@
 // The 58-byte monitor (001; 01, The 58-byte monitor): one record of 58 bytes without marks, numbers with the high byte first.
 // Places are the document's byte numbers, counted from 1, where a function takes one; indices count from 0.
-use checks::sum256;
 use numbers::Order;
 use numbers::number16;
 use numbers::number24;
 use refusals::Refusal;
 use refusals::refuse;
+use sums::sum256;
 ghost use mathlib.Core.Path.{_≡_};
 ghost use Prim.Native.Nat.{_-_, _%_, _≤_, _<_};
 ghost use lib.ListN.{length, take};
-ghost use Rattle.checks.specs.Sums.{total};
+ghost use Rattle.sums.specs.Sums.{total};
 ghost use Rattle.old58.specs.Record.{byteAt, twoAt, threeAt, voltsAt, degreesAt, currentOf, currentAt, packOf, extremesOf, cellOf, energyOf, setupOf, recordOf};
 ghost use Rattle.old58.specs.Read.{signKnown, ranged, judgedOf, readingOf};
 

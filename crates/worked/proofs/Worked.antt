@@ -4,7 +4,7 @@ use mathlib.Core.Path.{_≡_, refl}
 use mathlib.Core.Bool.{true}
 use Rattle.laws.specs.Firsts.{firsts}
 use Rattle.checks.specs.Crc.{shift, shifts, crcFrom, crcOf}
-use Rattle.checks.specs.Sums.{total}
+use Rattle.sums.specs.Sums.{total}
 use Rattle.digits.specs.Lengths.{wordOf}
 use Rattle.calendar.specs.Decimal.{bcdByte}
 use Rattle.calendar.specs.Dates.{leap, days, daysIn, realDate, realTime}

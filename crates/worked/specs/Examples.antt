@@ -6,7 +6,7 @@ use Prim.Native.Nat.{ℕ}
 use lib.Dec.{eqb}
 use lib.IntN.{ℤ, pos, negsuc}
 use Rattle.checks.specs.Crc.{crcOf}
-use Rattle.checks.specs.Sums.{total, closing}
+use Rattle.sums.specs.Sums.{total, closing}
 use Rattle.digits.specs.declared.Length.{Length}
 use Rattle.digits.specs.declared.Length.the-variants as lengths
 use Rattle.digits.specs.Lengths.{wordOf}

@@ -4,7 +4,7 @@ use mathlib.Core.Path.{_≡_, sym, ap, ap₂, _∙_}
 use Prim.Native.Nat.{ℕ, _-_}
 use lib.ListN.{length}
 use borrow.Author.Tests.{not-true, not-false}
-use Rattle.checks.specs.Sums.{total, closes}
+use Rattle.sums.specs.Sums.{total, closes}
 use Rattle.digits.specs.declared.Length.the-variants.{Is}
 use Rattle.digits.specs.Lengths.{countOf}
 use Rattle.frames_pace.specs.declared.Frame.the-variants.{Whole, Refused}

@@ -7,7 +7,7 @@ use native.Mathlib.Omega.{arith}
 use borrow.Author.Needs.{needs}
 use borrow.Author.Tests.{eq-eqb, ne-eqb}
 use lib.ListN.{length, getD}
-use Rattle.checks.specs.Sums.{total}
+use Rattle.sums.specs.Sums.{total}
 use Rattle.frames_tongzhu.proofs.Ladder.{all-summed, too-short, wrong-mark, wrong-length, wrong-check, wrong-address, wrong-version, whole}
 use Rattle.frames_tongzhu.specs.Reading.{checked, check}
 use Rattle.frames_tongzhu.specs.declared.Frame.the-variants.{Whole}

@@ -4,7 +4,7 @@ use Prim.Native.Nat.{ℕ, _-_, _%_}
 use mathlib.Core.Path.{_≡_, ap, _∙_}
 use native.Mathlib.Omega.{arith}
 use lib.ListN.{length, take}
-use Rattle.checks.specs.Sums.{total}
+use Rattle.sums.specs.Sums.{total}
 use borrow.Author.Needs.{needs}
 use Rattle.old58.proofs.front_sum.Statement.{statement}
 use Rattle.old58.proofs.front_sum.Tie as tie

@@ -5,7 +5,7 @@ use mathlib.Core.Path.{_≡_, sym, ap, _∙_}
 use native.Mathlib.Omega.{arith}
 use lib.ListN.{length, take}
 use borrow.Author.Tests.{not-true, not-false}
-use Rattle.checks.specs.Sums.{total}
+use Rattle.sums.specs.Sums.{total}
 use Rattle.old58.specs.declared.Judged.the-variants.{Refused}
 use Rattle.old58.proofs.Cases.{too-short, too-long, sum-wrong, out-of-range, sound}
 use borrow.Author.Needs.{needs}

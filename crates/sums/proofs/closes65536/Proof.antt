@@ -1,13 +1,13 @@
--- `checks::closes65536` meets its contract: what the low 16 bits of the sum leave modulo 65536 is what the sum leaves.
+-- `sums::closes65536` meets its contract: what the low 16 bits of the sum leave modulo 65536 is what the sum leaves.
 -- Assumes nothing.
 use Prim.Native.Nat.{ℕ, _+_, _%_}
 use mathlib.Core.Path.{_≡_, ap}
 use native.Mathlib.Omega.{arith}
 use lib.Dec.{eqb}
-use Rattle.checks.specs.Sums.{total}
+use Rattle.sums.specs.Sums.{total}
 use borrow.Author.Needs.{needs}
-use Rattle.checks.proofs.closes65536.Statement.{statement}
-use Rattle.checks.proofs.closes65536.Tie as tie
+use Rattle.sums.proofs.closes65536.Statement.{statement}
+use Rattle.sums.proofs.closes65536.Tie as tie
 
 sum-low-requires : tie.Need-sum-low-requires
 sum-low-requires c κs = search needs

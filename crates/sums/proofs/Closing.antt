@@ -7,7 +7,7 @@ use native.Mathlib.Omega.{arith}
 use mathlib.Core.Bool.{true}
 use mathlib.Core.List.{List, [], _∷_, _++_}
 use borrow.Author.Tests.{eq-eqb, eqb-true}
-use Rattle.checks.specs.Sums.{total, closing, closes}
+use Rattle.sums.specs.Sums.{total, closing, closes}
 
 pub total-at : (p q : List ℕ) (a : ℕ) → total (p ++ a ∷ q) ≡ a + (total p + total q)
 unfolding total

@@ -1,14 +1,14 @@
--- `checks::sum_low` meets its contract. The loop's invariant: the sum so far with what is left is the whole sum, modulo 65,536.
+-- `sums::sum_low` meets its contract. The loop's invariant: the sum so far with what is left is the whole sum, modulo 65,536.
 -- Assumes nothing.
 use Prim.Native.Nat.{_+_, _-_, _%_, _≤_, _<_}
 use mathlib.Core.Path.{_≡_, ap}
 use lib.ListN.{length, drop}
 use Rattle.laws.proofs.Walk.{left-next, left-none}
-use Rattle.checks.specs.Sums.{total}
+use Rattle.sums.specs.Sums.{total}
 use borrow.Author.Needs.{needs}
 use native.Mathlib.Omega.{arith}
-use Rattle.checks.proofs.sum_low.Statement.{statement}
-use Rattle.checks.proofs.sum_low.Tie as tie
+use Rattle.sums.proofs.sum_low.Statement.{statement}
+use Rattle.sums.proofs.sum_low.Tie as tie
 
 abbrev Inv-loop : tie.InvT-loop
 Inv-loop s t₀ i₀ t i = (i ≤ length s) × (t < 4294967296) × ((t + total (drop i s)) % 65536 ≡ total s % 65536)
