@@ -13,7 +13,7 @@ extern "C" {
         bytes: usize,
     ) -> u64;
     fn tracksaffron_pf_write(register: u8, value: i32, out: *mut u8, room: usize) -> u64;
-    fn tracksaffron_pf_find(s: *const u8, len: usize) -> usize;
+    fn tracksaffron_pf_find(s: *const u8, len: usize, found: *mut usize, places: usize) -> u64;
     fn tracksaffron_tz_read(asked: u8, s: *const u8, len: usize, row: *mut i32, numbers: usize) -> u64;
     fn tracksaffron_pace_read(
         address: u8,
@@ -44,8 +44,11 @@ pub fn pf_write(register: u8, value: i32, out: &mut [u8]) -> u64 {
     unsafe { tracksaffron_pf_write(register, value, out.as_mut_ptr(), out.len()) }
 }
 
+/// The place of the first frame, or the input's length: what the call leaves as it was where there is none.
 pub fn pf_find(s: &[u8]) -> usize {
-    unsafe { tracksaffron_pf_find(s.as_ptr(), s.len()) }
+    let mut found = [s.len(), 0];
+    unsafe { tracksaffron_pf_find(s.as_ptr(), s.len(), found.as_mut_ptr(), found.len()) };
+    found[0]
 }
 
 pub fn tz_read(asked: u8, s: &[u8], row: &mut [i32]) -> u64 {

@@ -1,5 +1,5 @@
 // Answers for languages that share no enum and no struct: one number for the answer, a lent row of numbers for its values, lent bytes for
-// its text. `specs/Told.antt` says which number and which values; the crates `exports` and `exports_*` say it for each device.
+// its text. `specs/Told.antt` says which number and which values; the crates `exports_*` say it for each device.
 use refusals::Written;
 ghost use mathlib.Core.Path.{_≡_};
 ghost use mathlib.Core.List.{map};
