@@ -14,7 +14,9 @@ use exports_rows::written_number;
 use records_pace::Answer;
 use records_pace::Reply;
 use records_pace::read_reply;
+use requests_pace::Parsed;
 use requests_pace::Request;
+use requests_pace::read_request;
 use requests_pace::write_request;
 use rows_pace::Values;
 use warnings_pace::Warnings;
@@ -24,7 +26,8 @@ ghost use Rattle.records_pace.specs.Reply.{replyOf};
 ghost use Rattle.exports_rows.specs.Told.{codeOf, rowAfter, textAfter, roomCode, over};
 ghost use Rattle.exports_rows.specs.Writing.{writtenCode};
 ghost use Rattle.requests_pace.specs.Request.{writtenOf, roomAfter};
-ghost use Rattle.exports_pace.specs.Requests.{overvoltage, discharge};
+ghost use Rattle.requests_pace.specs.Parsed.{parsedOf};
+ghost use Rattle.exports_pace.specs.Requests.{overvoltage, discharge, setTold, requestTold, toldRequest};
 ghost use Rattle.exports_pace.specs.Replies.{analogNumbers, analogAll, warningNumbers, warningAll, valuesTold, toldOf};
 
 // How many numbers the analog information and the warnings have, with their lists.
@@ -97,6 +100,69 @@ pub extern "C" fn tracksaffron_pace_slow_discharge(
         delay_100ms: delay,
     };
     written_number(write_request(Request::Set { address, values }, out))
+}
+
+// Reads a PACE request; its values go to the front of the row.
+#[no_mangle]
+pub extern "C" fn tracksaffron_pace_parse(s: &[u8], row: &mut [i32]) -> u64
+    ensures answer { λ r. ⌜ r ≡ codeOf (toldRequest (parsedOf (now (s .entry)))) (length (now (row .entry))) 0 ⌝ }
+    ensures filled { λ r. ⌜ now (row .exit) ≡ rowAfter (toldRequest (parsedOf (now (s .entry)))) (now (row .entry)) ⌝ }
+{
+    let parsed = read_request(s);
+    match parsed {
+        Parsed::Is(q) => put_request(q, row),
+        Parsed::Refused(why) => why.number as u64,
+    }
+}
+
+fn put_request(q: Request, row: &mut [i32]) -> u64
+    ensures answer { λ n. ⌜ n ≡ codeOf (requestTold q) (length (now (row .entry))) 0 ⌝ }
+    ensures filled { λ n. ⌜ now (row .exit) ≡ rowAfter (requestTold q) (now (row .entry)) ⌝ }
+{
+    match q {
+        Request::Ask { address, command } => {
+            let numbers = [address as i32, command as i32];
+            put_numbers(1, &numbers, row)
+        }
+        Request::Set { address, values } => put_set(address, values, row),
+    }
+}
+
+// The values that a request sets, behind its address.
+fn put_set(address: u8, values: Values, row: &mut [i32]) -> u64
+    ensures answer { λ n. ⌜ n ≡ codeOf (setTold address values) (length (now (row .entry))) 0 ⌝ }
+    ensures filled { λ n. ⌜ now (row .exit) ≡ rowAfter (setTold address values) (now (row .entry)) ⌝ }
+{
+    match values {
+        Values::CellOvervoltage {
+            alarm_mv,
+            protect_mv,
+            release_mv,
+            delay_100ms,
+        } => {
+            let numbers = [
+                address as i32,
+                alarm_mv as i32,
+                protect_mv as i32,
+                release_mv as i32,
+                delay_100ms as i32,
+            ];
+            put_numbers(2, &numbers, row)
+        }
+        Values::SlowDischarge {
+            alarm_a,
+            protect_a,
+            delay_100ms,
+        } => {
+            let numbers = [
+                address as i32,
+                alarm_a as i32,
+                protect_a as i32,
+                delay_100ms as i32,
+            ];
+            put_numbers(3, &numbers, row)
+        }
+    }
 }
 
 fn tell(r: Reply, row: &mut [i32], text: &mut [u8]) -> u64

@@ -20,8 +20,10 @@ use numbers::number16;
 use records_tongzhu::Answer;
 use records_tongzhu::Monitor2;
 use records_tongzhu::answer_to;
+use requests_tongzhu::Parsed;
 use requests_tongzhu::Request;
 use requests_tongzhu::Time;
+use requests_tongzhu::read_request;
 use requests_tongzhu::write_request;
 use signs::signed8;
 ghost use mathlib.Core.Path.{_≡_};
@@ -33,8 +35,8 @@ ghost use Rattle.monitor3_tongzhu.specs.Layout.{foundAt, listsAt};
 ghost use Rattle.records_tongzhu.specs.Replies.{answerIn, answerTo, replyOf};
 ghost use Rattle.exports_rows.specs.Told.{codeOf, rowAfter, roomCode, over};
 ghost use Rattle.exports_rows.specs.Writing.{writtenCode};
-ghost use Rattle.requests_tongzhu.specs.Requests.{wireOf, writtenOf, roomAfter};
-ghost use Rattle.exports_tongzhu.specs.Requests.{timeOf};
+ghost use Rattle.requests_tongzhu.specs.Requests.{wireOf, writtenOf, roomAfter, parsedOf};
+ghost use Rattle.exports_tongzhu.specs.Requests.{timeOf, timeNumbers, requestTold, toldRequest};
 ghost use Rattle.exports_tongzhu.specs.Replies.{statusNumbers, monitor2Numbers, monitor3Numbers, allNumbers, listed, toldIn, toldOf};
 
 // How many numbers a monitor 3 has: its own, then 32 cells, 4 bytes of balance, 16 sensors and 16 MOSFET sensors.
@@ -89,6 +91,48 @@ pub extern "C" fn tracksaffron_tz_set_time(
         second,
     };
     written_number(write_request(Request::SetTime(t), out))
+}
+
+// Reads a Tongzhu request; its values go to the front of the row.
+#[no_mangle]
+pub extern "C" fn tracksaffron_tz_parse(s: &[u8], row: &mut [i32]) -> u64
+    ensures answer { λ r. ⌜ r ≡ codeOf (toldRequest (parsedOf (now (s .entry)))) (length (now (row .entry))) 0 ⌝ }
+    ensures filled { λ r. ⌜ now (row .exit) ≡ rowAfter (toldRequest (parsedOf (now (s .entry)))) (now (row .entry)) ⌝ }
+{
+    let parsed = read_request(s);
+    match parsed {
+        Parsed::Is(q) => put_request(q, row),
+        Parsed::Refused(why) => why.number as u64,
+    }
+}
+
+fn put_request(q: Request, row: &mut [i32]) -> u64
+    ensures answer { λ n. ⌜ n ≡ codeOf (requestTold q) (length (now (row .entry))) 0 ⌝ }
+    ensures filled { λ n. ⌜ now (row .exit) ≡ rowAfter (requestTold q) (now (row .entry)) ⌝ }
+{
+    match q {
+        Request::Ask(function) => {
+            let asked = [function as i32];
+            put_numbers(1, &asked, row)
+        }
+        Request::SetTime(t) => {
+            let time = time_numbers(t);
+            put_numbers(2, &time, row)
+        }
+    }
+}
+
+fn time_numbers(t: Time) -> [i32; 6]
+    ensures { λ r. ⌜ r ≡ timeNumbers t ⌝ }
+{
+    [
+        t.year as i32,
+        t.month as i32,
+        t.day as i32,
+        t.hour as i32,
+        t.minute as i32,
+        t.second as i32,
+    ]
 }
 
 // What a whole frame answers. A monitor 3, the longest reply, goes its own way: the answers to all functions would share its registers.
