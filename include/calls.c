@@ -1,8 +1,9 @@
-/* Every call of tracksaffron.h from C, once with an answer that the documents give and again with lengths that are wrong (tests/bindings).
- * Prints what does not hold; the exit status says whether all did. */
+/* Every call of tracksaffron.h from C, with answers that the documents give, with lengths that are wrong and with null for no bytes
+ * (tests/bindings). Prints what does not hold; the exit status says whether all did. */
 #include "tracksaffron.h"
 
 #include <stdio.h>
+#include <stdlib.h>
 #include <string.h>
 
 static int failures;
@@ -28,14 +29,23 @@ static int untouched(const void *lent, size_t bytes) {
 
 #define FRESH(lent) memset((lent), 0xA5, sizeof(lent))
 
+static void sums(void) {
+    CHECK(tracksaffron_crc16((const uint8_t *)"\x01\x05", 2) == 0x6394);
+    CHECK(tracksaffron_close256((const uint8_t *)"\x7F\x10\x02\x06\x12", 5) == 0x57);
+    CHECK(tracksaffron_close65536((const uint8_t *)"25014642E00201", 14) == 0xFD30);
+}
+
+static void refusals(void) {
+    CHECK(tracksaffron_refusal_text(0) == NULL && tracksaffron_refusal_text(TRACKSAFFRON_REFUSED_PRESENT_PAIR + 1) == NULL);
+    CHECK(strcmp(tracksaffron_refusal_text(TRACKSAFFRON_REFUSED_CHECKSUM), "the checksum is wrong") == 0);
+}
+
 static void pathfinder(void) {
     static const uint8_t set[] = {0xFE, 0x06, 0x0E, 0x03, 0x38, 0x00, 0x00, 0x00, 0x66, 0x7E, 0xFD};
     uint8_t out[16], name[4];
     int32_t row[3];
     int64_t value[1];
-
-    CHECK(tracksaffron_crc16((const uint8_t *)"\x01\x05", 2) == 0x6394);
-    CHECK(tracksaffron_crc16(out, 0) == 0);
+    size_t found[2];
 
     FRESH(out);
     CHECK(tracksaffron_pf_write(3, 56, out, sizeof out) == ANSWER(TRACKSAFFRON_FRAME, 11));
@@ -70,6 +80,16 @@ static void pathfinder(void) {
     CHECK(untouched(row, sizeof row));
     CHECK(tracksaffron_pf_read(1, reply, sizeof reply, row, 3, name, 4) == ANSWER(TRACKSAFFRON_PF_WORDS, 3));
     CHECK(row[0] == 1 && row[1] == 2 && row[2] == -20);
+    reply[0] = 0;
+    CHECK(tracksaffron_pf_read(1, reply, sizeof reply, row, 3, name, 4) == TRACKSAFFRON_REFUSED_FIRST_MARK);
+    reply[0] = 0xFE;
+    reply[17] = 0;
+    CHECK(tracksaffron_pf_read(1, reply, sizeof reply, row, 3, name, 4) == TRACKSAFFRON_REFUSED_LAST_MARK);
+    reply[17] = 0xFD;
+    reply[4]++;
+    CHECK(tracksaffron_pf_read(1, reply, sizeof reply, row, 3, name, 4) == TRACKSAFFRON_REFUSED_CHECKSUM);
+    CHECK(tracksaffron_pf_read(0x0E, (const uint8_t *)"\xFE\x01\x0E\xD2\xFF\xFD", 6, row, 3, name, 4) == ANSWER(TRACKSAFFRON_PF_WRITTEN, 0));
+    CHECK(tracksaffron_pf_read(0x0E, (const uint8_t *)"\xFE\x01\x24\x57\xD7\xFD", 6, row, 3, name, 4) == ANSWER(TRACKSAFFRON_PF_FAILURE, 0x24));
 
     FRESH(value);
     CHECK(tracksaffron_pf_row(3, 10, 255, value, 1) == ANSWER(TRACKSAFFRON_PF_ROW_MISSING, 0));
@@ -83,9 +103,28 @@ static void pathfinder(void) {
 
     uint8_t log[32] = "log \xFE text ";
     memcpy(log + 11, set, sizeof set);
-    CHECK(tracksaffron_pf_find(log, sizeof log) == 11);
-    CHECK(tracksaffron_pf_find(log, 21) == 21);
-    CHECK(tracksaffron_pf_find(log, 0) == 0);
+    FRESH(found);
+    CHECK(tracksaffron_pf_find(log, sizeof log, found, 1) == TRACKSAFFRON_REFUSED_ROOM);
+    CHECK(tracksaffron_pf_find(log, 21, found, 2) == ANSWER(TRACKSAFFRON_PF_NOTHING, 0));
+    CHECK(untouched(found, sizeof found));
+    CHECK(tracksaffron_pf_find(log, sizeof log, found, 2) == ANSWER(TRACKSAFFRON_PF_FOUND, 2) && found[0] == 11 && found[1] == 11);
+
+    FRESH(row);
+    CHECK(tracksaffron_pf_parse(set, sizeof set, row, 1) == TRACKSAFFRON_REFUSED_ROOM);
+    CHECK(tracksaffron_pf_parse(set, sizeof set - 1, row, 2) == TRACKSAFFRON_REFUSED_LENGTH);
+    CHECK(untouched(row, sizeof row));
+    CHECK(tracksaffron_pf_parse(set, sizeof set, row, 3) == ANSWER(TRACKSAFFRON_PF_SET, 2) && row[0] == 3 && row[1] == 56);
+    CHECK(tracksaffron_pf_parse((const uint8_t *)"\xFE\x01\x05\x63\x94\xFD", 6, row, 1) == ANSWER(TRACKSAFFRON_PF_ASK, 1) && row[0] == 5);
+
+    CHECK(tracksaffron_pf_millivolts(-5000) == -50000);
+}
+
+/* What the reply to a function with this message tells. */
+static uint64_t tz_reply(uint8_t function, const char *message, size_t len, int32_t *row) {
+    uint8_t frame[16] = {0x7F, 0x10, 0x02, len + 6, function};
+    memcpy(frame + 5, message, len);
+    frame[5 + len] = tracksaffron_close256(frame, 5 + len);
+    return tracksaffron_tz_read(function, frame, 6 + len, row, TRACKSAFFRON_TZ3_NUMBERS);
 }
 
 static void tongzhu(void) {
@@ -123,15 +162,26 @@ static void tongzhu(void) {
     CHECK(memcmp(out, "\x7F\x10\x02\x0C\x30\x17\x05\x12\x10\x30\x50\x75", 12) == 0);
     CHECK(tracksaffron_tz_set_time(23, 2, 29, 0, 0, 0, out, sizeof out) == TRACKSAFFRON_REFUSED_RANGE);
     CHECK(tracksaffron_tz_set_time(24, 2, 29, 0, 0, 0, out, 11) == TRACKSAFFRON_REFUSED_ROOM);
+
+    FRESH(row);
+    CHECK(tracksaffron_tz_parse(out, 12, row, 5) == TRACKSAFFRON_REFUSED_ROOM);
+    CHECK(untouched(row, sizeof row));
+    CHECK(tracksaffron_tz_parse(out, 12, row, 80) == ANSWER(TRACKSAFFRON_TZ_SET_TIME, 6));
+    CHECK(row[0] == 17 && row[1] == 5 && row[2] == 12 && row[3] == 10 && row[4] == 30 && row[5] == 50);
+    CHECK(tracksaffron_tz_parse((const uint8_t *)"\x7F\x10\x02\x06\x12\x57", 6, row, 1) == ANSWER(TRACKSAFFRON_TZ_ASK, 1) && row[0] == 0x12);
+
+    CHECK(tz_reply(0x14, "\x01\x02\x03\x04", 4, row) == ANSWER(TRACKSAFFRON_TZ_STATUS, 4) && row[0] == 1 && row[3] == 4);
+    CHECK(tz_reply(0x15, "\xEC\xFF", 2, row) == ANSWER(TRACKSAFFRON_TZ_CURRENT, 1) && row[0] == -20);
+    CHECK(tz_reply(0x30, "\x01", 1, row) == ANSWER(TRACKSAFFRON_TZ_DONE, 0));
+    CHECK(tz_reply(0x30, "\x02", 1, row) == ANSWER(TRACKSAFFRON_TZ_NOT_DONE, 0));
+    CHECK(tracksaffron_tz_read(0x12, (const uint8_t *)"\x7F\x10\x02\x06\x00\x69", 6, row, 0) == ANSWER(TRACKSAFFRON_TZ_DEVICE_ERROR, 0));
 }
 
 /* A PACE reply of address 1 with this INFO. */
 static size_t pace_reply(const char *info, uint8_t *out) {
-    unsigned count = strlen(info), digits = (count >> 8) + (count >> 4 & 15) + (count & 15), sum = 0;
+    unsigned count = strlen(info), digits = (count >> 8) + (count >> 4 & 15) + (count & 15);
     int n = sprintf((char *)out, "~25014600%X%03X%s", (16 - digits % 16) % 16, count, info);
-    for (int i = 1; i < n; i++)
-        sum += out[i];
-    return n + sprintf((char *)out + n, "%04X\r", -sum & 0xFFFF);
+    return n + sprintf((char *)out + n, "%04X\r", tracksaffron_close65536(out + 1, n - 1));
 }
 
 static void pace(void) {
@@ -148,6 +198,19 @@ static void pace(void) {
     CHECK(tracksaffron_pace_slow_discharge(1, 100, 105, 10, out, sizeof out) == ANSWER(TRACKSAFFRON_FRAME, 30));
     CHECK(memcmp(out + 13, "01006400690A", 12) == 0);
     CHECK(tracksaffron_pace_slow_discharge(1, 0, 105, 10, out, 0) == TRACKSAFFRON_REFUSED_RANGE);
+
+    FRESH(row);
+    CHECK(tracksaffron_pace_parse(out, 30, row, 3) == TRACKSAFFRON_REFUSED_ROOM);
+    CHECK(untouched(row, sizeof row));
+    CHECK(tracksaffron_pace_parse(out, 30, row, 38) == ANSWER(TRACKSAFFRON_PACE_SET_SLOW_DISCHARGE, 4));
+    CHECK(row[0] == 1 && row[1] == 100 && row[2] == 105 && row[3] == 10);
+    out[14] = 'a';
+    CHECK(tracksaffron_pace_parse(out, 30, row, 38) == TRACKSAFFRON_REFUSED_CHARACTER);
+    CHECK(tracksaffron_pace_cell_overvoltage(2, 3600, 3700, 3500, 20, out, sizeof out) == ANSWER(TRACKSAFFRON_FRAME, 34));
+    CHECK(tracksaffron_pace_parse(out, 34, row, 5) == ANSWER(TRACKSAFFRON_PACE_SET_CELL_OVERVOLTAGE, 5));
+    CHECK(row[0] == 2 && row[1] == 3600 && row[2] == 3700 && row[3] == 3500 && row[4] == 20);
+    CHECK(tracksaffron_pace_ask(1, 0x42, out, sizeof out) == ANSWER(TRACKSAFFRON_FRAME, 20));
+    CHECK(tracksaffron_pace_parse(out, 20, row, 2) == ANSWER(TRACKSAFFRON_PACE_ASK, 2) && row[0] == 1 && row[1] == 0x42);
 
     FRESH(row);
     FRESH(text);
@@ -179,7 +242,14 @@ static void pace(void) {
     CHECK(tracksaffron_pace_read(1, 0xC1, reply, n, row, 0, text, 40) == ANSWER(TRACKSAFFRON_PACE_HARDWARE, 20));
     CHECK(memcmp(text, "0123456789ABCDEFGHIJ", 20) == 0 && untouched(text + 20, 20));
     CHECK(tracksaffron_pace_read(1, 0xC2, reply, n, row, 0, text, 40) == ANSWER(TRACKSAFFRON_PACE_SERIAL, 20));
-    CHECK(tracksaffron_pace_read(1, 0xD0, reply, pace_reply("", reply), row, 0, text, 0) == ANSWER(TRACKSAFFRON_PACE_ACCEPTED, 0));
+    n = pace_reply("010E100E740DAC14", reply);
+    CHECK(tracksaffron_pace_read(1, 0xD1, reply, n, row, 4, text, 0) == ANSWER(TRACKSAFFRON_PACE_CELL_OVERVOLTAGE, 4));
+    CHECK(row[0] == 3600 && row[1] == 3700 && row[2] == 3500 && row[3] == 20);
+    n = pace_reply("", reply);
+    CHECK(tracksaffron_pace_read(1, 0xD0, reply, n, row, 0, text, 0) == ANSWER(TRACKSAFFRON_PACE_ACCEPTED, 0));
+    reply[8] = '9';
+    sprintf((char *)reply + 13, "%04X\r", tracksaffron_close65536(reply + 1, 12));
+    CHECK(tracksaffron_pace_read(1, 0xD0, reply, n, row, 0, text, 0) == ANSWER(TRACKSAFFRON_PACE_FAILURE, 9));
 }
 
 static void old58(void) {
@@ -209,7 +279,7 @@ static void old58(void) {
 static void restore(void) {
     uint8_t job[TRACKSAFFRON_JOB_BYTES], kept[TRACKSAFFRON_JOB_BYTES], out[16];
     uint8_t reply[6] = {0xFE, 0x01, 0x0E, 0, 0, 0xFD};
-    int32_t present[50] = {1000, 10, 4, 55, 50, 5, 0, 40, 5, 50, 0, 5, 0, 40, 5}, wanted[15];
+    int32_t present[TRACKSAFFRON_PRESENT_WORDS] = {1000, 10, 4, 55, 50, 5, 0, 40, 5, 50, 0, 5, 0, 40, 5}, wanted[TRACKSAFFRON_WANTED_VALUES];
 
     /* P11: 55, 50 to 45, 40 writes 4, then 3. */
     memcpy(wanted, present, sizeof wanted);
@@ -230,7 +300,7 @@ static void restore(void) {
     CHECK(untouched(job, sizeof job) && untouched(out, sizeof out));
 
     CHECK(tracksaffron_restore_open(present, 50, wanted, 15, job, 262) == ANSWER(TRACKSAFFRON_RESTORE_OPENED, 0));
-    CHECK(tracksaffron_restore_left(job, 262) == ANSWER(1, 2));
+    CHECK(tracksaffron_restore_left(job, 262) == ANSWER(TRACKSAFFRON_RESTORE_LEFT, 2));
     memcpy(kept, job, sizeof job);
     CHECK(tracksaffron_restore_reply(job, 262, reply, 6) == TRACKSAFFRON_REFUSED_TURN);
     CHECK(tracksaffron_restore_next(job, 262, out, 10) == TRACKSAFFRON_REFUSED_ROOM);
@@ -242,19 +312,74 @@ static void restore(void) {
     CHECK(tracksaffron_restore_next(job, 262, out, sizeof out) == ANSWER(TRACKSAFFRON_RESTORE_FRAME, 11) && out[3] == 3 && out[4] == 45);
     CHECK(tracksaffron_restore_reply(job, 262, reply, 6) == ANSWER(TRACKSAFFRON_RESTORE_WRITTEN, 0));
     CHECK(tracksaffron_restore_next(job, 262, out, sizeof out) == ANSWER(TRACKSAFFRON_RESTORE_DONE, 0));
-    CHECK(tracksaffron_restore_left(job, 262) == ANSWER(1, 0));
+    CHECK(tracksaffron_restore_left(job, 262) == ANSWER(TRACKSAFFRON_RESTORE_LEFT, 0));
     wanted[3] = 40;
     memcpy(kept, job, sizeof job);
     CHECK(tracksaffron_restore_open(present, 50, wanted, 15, job, 262) == TRACKSAFFRON_REFUSED_WANTED_PAIR);
+    wanted[3] = 45;
+    present[4] = 55;
+    CHECK(tracksaffron_restore_open(present, 50, wanted, 15, job, 262) == TRACKSAFFRON_REFUSED_PRESENT_PAIR);
     CHECK(memcmp(job, kept, sizeof job) == 0);
+
+    /* A device failure stops the job. */
+    present[4] = 50;
+    CHECK(tracksaffron_restore_open(present, 50, wanted, 15, job, 262) == ANSWER(TRACKSAFFRON_RESTORE_OPENED, 0));
+    CHECK(tracksaffron_restore_next(job, 262, out, sizeof out) == ANSWER(TRACKSAFFRON_RESTORE_FRAME, 11));
+    CHECK(tracksaffron_restore_reply(job, 262, (const uint8_t *)"\xFE\x01\x24\x57\xD7\xFD", 6) == ANSWER(TRACKSAFFRON_RESTORE_FAILURE, 0x24));
+    CHECK(tracksaffron_restore_next(job, 262, out, sizeof out) == TRACKSAFFRON_REFUSED_TURN);
 }
 
+/* Null with length 0, for all that a call is lent. */
+static void nothing(void) {
+    CHECK(tracksaffron_crc16(NULL, 0) == 0 && tracksaffron_close256(NULL, 0) == 0 && tracksaffron_close65536(NULL, 0) == 0);
+    CHECK(tracksaffron_pf_read(5, NULL, 0, NULL, 0, NULL, 0) == TRACKSAFFRON_REFUSED_SHORT);
+    CHECK(tracksaffron_pf_read(5, (const uint8_t *)"\xFE\x01\x05\x63\x94\xFD", 6, NULL, 0, NULL, 0) == ANSWER(TRACKSAFFRON_PF_NAME, 0));
+    CHECK(tracksaffron_pf_row(1, 0, -20, NULL, 0) == TRACKSAFFRON_REFUSED_ROOM);
+    CHECK(tracksaffron_pf_ask(5, NULL, 0) == TRACKSAFFRON_REFUSED_ROOM && tracksaffron_pf_write(3, 56, NULL, 0) == TRACKSAFFRON_REFUSED_ROOM);
+    CHECK(tracksaffron_pf_parse(NULL, 0, NULL, 0) == TRACKSAFFRON_REFUSED_SHORT);
+    CHECK(tracksaffron_pf_find(NULL, 0, NULL, 0) == ANSWER(TRACKSAFFRON_PF_NOTHING, 0));
+    CHECK(tracksaffron_tz_read(0x11, NULL, 0, NULL, 0) == TRACKSAFFRON_REFUSED_SHORT);
+    CHECK(tracksaffron_tz_parse(NULL, 0, NULL, 0) == TRACKSAFFRON_REFUSED_SHORT);
+    CHECK(tracksaffron_tz_ask(0x11, NULL, 0) == TRACKSAFFRON_REFUSED_ROOM && tracksaffron_tz_set_time(24, 1, 1, 0, 0, 0, NULL, 0) == TRACKSAFFRON_REFUSED_ROOM);
+    CHECK(tracksaffron_pace_read(1, 0x42, NULL, 0, NULL, 0, NULL, 0) == TRACKSAFFRON_REFUSED_SHORT);
+    CHECK(tracksaffron_pace_parse(NULL, 0, NULL, 0) == TRACKSAFFRON_REFUSED_SHORT);
+    CHECK(tracksaffron_pace_ask(1, 0x42, NULL, 0) == TRACKSAFFRON_REFUSED_ROOM);
+    CHECK(tracksaffron_pace_cell_overvoltage(1, 3600, 3700, 3500, 20, NULL, 0) == TRACKSAFFRON_REFUSED_ROOM);
+    CHECK(tracksaffron_pace_slow_discharge(1, 100, 105, 10, NULL, 0) == TRACKSAFFRON_REFUSED_ROOM);
+    CHECK(tracksaffron_old_read(NULL, 0, NULL, 0) == TRACKSAFFRON_REFUSED_SHORT);
+    CHECK(tracksaffron_restore_open(NULL, 0, NULL, 0, NULL, 0) == TRACKSAFFRON_REFUSED_SHAPE);
+    CHECK(tracksaffron_restore_next(NULL, 0, NULL, 0) == TRACKSAFFRON_REFUSED_SHAPE);
+    CHECK(tracksaffron_restore_reply(NULL, 0, NULL, 0) == TRACKSAFFRON_REFUSED_SHAPE);
+    CHECK(tracksaffron_restore_left(NULL, 0) == TRACKSAFFRON_REFUSED_SHAPE);
+}
+
+/* Whether a frame of tests/fields.txt is read as the reply to what was asked of the device, with its values in the row. */
+static int tells(const char *asked, const char *frame, int32_t *row, size_t numbers) {
+    uint8_t bytes[256];
+    size_t n = strlen(frame) / 2;
+    if (strncmp(asked, "pace", 4) == 0) {
+        n = sprintf((char *)bytes, "%s\r", frame);
+        return TRACKSAFFRON_KIND(tracksaffron_pace_read(1, strtoul(asked + 4, NULL, 16), bytes, n, row, numbers, NULL, 0)) != 0;
+    }
+    for (size_t i = 0; i < n; i++)
+        sscanf(frame + 2 * i, "%2hhx", &bytes[i]);
+    if (strncmp(asked, "tz", 2) == 0)
+        return TRACKSAFFRON_KIND(tracksaffron_tz_read(strtoul(asked + 2, NULL, 16), bytes, n, row, numbers)) != 0;
+    return TRACKSAFFRON_KIND(tracksaffron_old_read(bytes, n, row, numbers)) != 0;
+}
+
+#include "fields.c"
+
 int main(void) {
+    sums();
+    refusals();
     pathfinder();
     tongzhu();
     pace();
     old58();
     restore();
+    nothing();
+    fields();
     if (failures == 0)
         puts("every call holds from C");
     return failures != 0;

@@ -3,10 +3,10 @@
  *
  * Link target/staticlib/libtracksaffron.a, which include/archive builds. The library allocates nothing, keeps nothing between calls, and uses
  * memcpy alone of the C library. Every call may be made with any bytes of any length. It reads and writes what it is lent within the lengths given
- * and nowhere else; a pointer with length 0 must not be null. What one call is lent must not overlap.
+ * and nowhere else; a pointer with length 0 may be null. What one call is lent must not overlap.
  *
- * Every answer but a checksum's and a search's is one number: a kind (TRACKSAFFRON_KIND), and a number that goes with it
- * (TRACKSAFFRON_NUMBER). Kind 0 is a refusal, and the number says why (TRACKSAFFRON_REFUSED_...). After a refusal everything lent holds what it
+ * Every answer but a sum's and a number of millivolts is one number: a kind (TRACKSAFFRON_KIND), and a number that goes with it
+ * (TRACKSAFFRON_NUMBER). Kind 0 is a refusal, and the number says why (tracksaffron_refusal). After a refusal everything lent holds what it
  * held. Where values go into a row or text into bytes, the number is how many were put at its front; places past them keep their contents.
  */
 #ifndef TRACKSAFFRON_H
@@ -22,28 +22,55 @@ extern "C" {
 #define TRACKSAFFRON_KIND(answer) ((uint32_t)((answer) >> 32))
 #define TRACKSAFFRON_NUMBER(answer) ((uint32_t)(answer))
 
-/* ---- refusals, in the order of document 01: the number of the first condition that is met */
+/* ---- refusals, in the order of document 01: the number of the first condition that is met. SHAPE is also given for bytes that hold no job, ROOM
+ * for a row, text or room that is too short, after every other refusal. */
 
-#define TRACKSAFFRON_REFUSED_SHORT 1         /* shorter than the smallest frame */
-#define TRACKSAFFRON_REFUSED_FIRST_MARK 2    /* first mark wrong */
-#define TRACKSAFFRON_REFUSED_LAST_MARK 3     /* last mark wrong */
-#define TRACKSAFFRON_REFUSED_LENGTH 4        /* declared and real length disagree */
-#define TRACKSAFFRON_REFUSED_CHECKSUM 5      /* checksum wrong */
-#define TRACKSAFFRON_REFUSED_ADDRESS 6       /* address, version or CID1 */
-#define TRACKSAFFRON_REFUSED_REQUEST 7       /* a reply to another request, or a request that is not listed */
-#define TRACKSAFFRON_REFUSED_SHAPE 8         /* payload or argument of the wrong shape; bytes that hold no job */
-#define TRACKSAFFRON_REFUSED_RANGE 9         /* a value outside its range */
-#define TRACKSAFFRON_REFUSED_REGISTER 10     /* unknown register */
-#define TRACKSAFFRON_REFUSED_ROOM 11         /* row, text or room too short; after every other refusal */
-#define TRACKSAFFRON_REFUSED_WANTED_PAIR 12  /* a wanted pair is crossed */
-#define TRACKSAFFRON_REFUSED_CHARACTER 13    /* a PACE character other than 0-9 or A-F */
-#define TRACKSAFFRON_REFUSED_TURN 14         /* a restore step out of turn */
-#define TRACKSAFFRON_REFUSED_PRESENT_PAIR 15 /* a present pair is crossed */
+typedef enum tracksaffron_refusal {
+    TRACKSAFFRON_REFUSED_SHORT = 1,
+    TRACKSAFFRON_REFUSED_FIRST_MARK = 2,
+    TRACKSAFFRON_REFUSED_LAST_MARK = 3,
+    TRACKSAFFRON_REFUSED_LENGTH = 4,
+    TRACKSAFFRON_REFUSED_CHECKSUM = 5,
+    TRACKSAFFRON_REFUSED_ADDRESS = 6,
+    TRACKSAFFRON_REFUSED_REQUEST = 7,
+    TRACKSAFFRON_REFUSED_SHAPE = 8,
+    TRACKSAFFRON_REFUSED_RANGE = 9,
+    TRACKSAFFRON_REFUSED_REGISTER = 10,
+    TRACKSAFFRON_REFUSED_ROOM = 11,
+    TRACKSAFFRON_REFUSED_WANTED_PAIR = 12,
+    TRACKSAFFRON_REFUSED_CHARACTER = 13,
+    TRACKSAFFRON_REFUSED_TURN = 14,
+    TRACKSAFFRON_REFUSED_PRESENT_PAIR = 15,
+} tracksaffron_refusal;
 
-/* ---- checksum */
+/* A few words for a refusal's number; null for a number that is none. */
+static inline const char *tracksaffron_refusal_text(uint32_t number) {
+    switch (number) {
+    case TRACKSAFFRON_REFUSED_SHORT: return "the input is shorter than the smallest frame";
+    case TRACKSAFFRON_REFUSED_FIRST_MARK: return "the first mark is wrong";
+    case TRACKSAFFRON_REFUSED_LAST_MARK: return "the last mark is wrong";
+    case TRACKSAFFRON_REFUSED_LENGTH: return "declared length and input length disagree, or PACE's length digit is wrong";
+    case TRACKSAFFRON_REFUSED_CHECKSUM: return "the checksum is wrong";
+    case TRACKSAFFRON_REFUSED_ADDRESS: return "address, version or CID1 is wrong";
+    case TRACKSAFFRON_REFUSED_REQUEST: return "the reply is to another request, or the request is not listed";
+    case TRACKSAFFRON_REFUSED_SHAPE: return "payload or argument of the wrong shape";
+    case TRACKSAFFRON_REFUSED_RANGE: return "a value is outside its range";
+    case TRACKSAFFRON_REFUSED_REGISTER: return "the register is unknown";
+    case TRACKSAFFRON_REFUSED_ROOM: return "the room is too small";
+    case TRACKSAFFRON_REFUSED_WANTED_PAIR: return "a wanted pair is crossed";
+    case TRACKSAFFRON_REFUSED_CHARACTER: return "a PACE character is none of 0-9 and A-F";
+    case TRACKSAFFRON_REFUSED_TURN: return "a restore step is out of turn";
+    case TRACKSAFFRON_REFUSED_PRESENT_PAIR: return "a present pair is crossed";
+    default: return NULL;
+    }
+}
 
-/* CRC-16/XMODEM of the bytes. */
+/* ---- sums */
+
+/* CRC-16/XMODEM of the bytes; the byte that closes their sum to 0 modulo 256; the number that closes it to 0 modulo 65,536. */
 uint16_t tracksaffron_crc16(const uint8_t *s, size_t len);
+uint8_t tracksaffron_close256(const uint8_t *s, size_t len);
+uint16_t tracksaffron_close65536(const uint8_t *s, size_t len);
 
 /* ---- Pathfinder */
 
@@ -61,13 +88,23 @@ uint64_t tracksaffron_pf_read(uint8_t asked, const uint8_t *s, size_t len, int32
 #define TRACKSAFFRON_PF_ROW_MISSING 4        /* no data; value keeps its contents */
 uint64_t tracksaffron_pf_row(uint8_t reply, uint8_t row, int32_t word, int64_t *value, size_t values);
 
+/* A count of ten millivolts as millivolts. */
+int32_t tracksaffron_pf_millivolts(int16_t tens);
+
 /* Requests. Kind TRACKSAFFRON_FRAME: a frame of so many bytes stands at the front of out. */
 #define TRACKSAFFRON_FRAME 1
 uint64_t tracksaffron_pf_ask(uint8_t opcode, uint8_t *out, size_t room);
 uint64_t tracksaffron_pf_write(uint8_t target, int32_t value, uint8_t *out, size_t room);
 
-/* The place of the first whole frame in the bytes, or len where there is none. */
-size_t tracksaffron_pf_find(const uint8_t *s, size_t len);
+/* The request that the bytes are. */
+#define TRACKSAFFRON_PF_ASK 1 /* row[0]: the opcode */
+#define TRACKSAFFRON_PF_SET 2 /* row[0]: the register, row[1]: the value */
+uint64_t tracksaffron_pf_parse(const uint8_t *s, size_t len, int32_t *row, size_t numbers);
+
+/* The first whole frame among the bytes, as in log text. */
+#define TRACKSAFFRON_PF_FOUND 1   /* found[0]: its place, found[1]: how many bytes it has */
+#define TRACKSAFFRON_PF_NOTHING 2
+uint64_t tracksaffron_pf_find(const uint8_t *s, size_t len, size_t *found, size_t places);
 
 /* ---- Tongzhu */
 
@@ -115,6 +152,11 @@ uint64_t tracksaffron_tz_read(uint8_t asked, const uint8_t *s, size_t len, int32
 uint64_t tracksaffron_tz_ask(uint8_t function, uint8_t *out, size_t room);
 uint64_t tracksaffron_tz_set_time(uint8_t year, uint8_t month, uint8_t day, uint8_t hour, uint8_t minute, uint8_t second, uint8_t *out,
                                   size_t room);
+
+/* The request that the bytes are. */
+#define TRACKSAFFRON_TZ_ASK 1      /* row[0]: the function */
+#define TRACKSAFFRON_TZ_SET_TIME 2 /* row: year from 2000, month, day, hour, minute, second */
+uint64_t tracksaffron_tz_parse(const uint8_t *s, size_t len, int32_t *row, size_t numbers);
 
 /* ---- PACE */
 
@@ -168,6 +210,12 @@ uint64_t tracksaffron_pace_cell_overvoltage(uint8_t address, uint16_t alarm_mv, 
                                             uint8_t delay_100ms, uint8_t *out, size_t room);
 uint64_t tracksaffron_pace_slow_discharge(uint8_t address, uint16_t alarm_a, uint16_t protect_a, uint8_t delay_100ms, uint8_t *out,
                                           size_t room);
+
+/* The request that the characters are. */
+#define TRACKSAFFRON_PACE_ASK 1                  /* row: address, command */
+#define TRACKSAFFRON_PACE_SET_CELL_OVERVOLTAGE 2 /* row: address, alarm, protect, release in mV, delay in 100 ms */
+#define TRACKSAFFRON_PACE_SET_SLOW_DISCHARGE 3   /* row: address, alarm, protect in A, delay in 100 ms */
+uint64_t tracksaffron_pace_parse(const uint8_t *s, size_t len, int32_t *row, size_t numbers);
 
 /* ---- the 58-byte monitor */
 
@@ -231,7 +279,8 @@ uint64_t tracksaffron_restore_next(uint8_t *job, size_t bytes, uint8_t *out, siz
 #define TRACKSAFFRON_RESTORE_FAILURE 2 /* the device's failure, with its code; the job is stopped */
 uint64_t tracksaffron_restore_reply(uint8_t *job, size_t bytes, const uint8_t *s, size_t len);
 
-/* Kind 1, and how many settings differ from wanted in the job's picture. */
+/* How many settings differ from wanted in the job's picture. */
+#define TRACKSAFFRON_RESTORE_LEFT 1
 uint64_t tracksaffron_restore_left(const uint8_t *job, size_t bytes);
 
 #ifdef __cplusplus

@@ -113,7 +113,7 @@ fn pace() {
     let hex = |b: &[u8]| b.iter().map(|b| format!("{b:02X}")).collect::<String>();
     let count = 2 * info.len() as u16;
     let digits = (count >> 8) + (count >> 4 & 15) + (count & 15);
-    let length = (16 - digits % 16) % 16 << 12 | count;
+    let length = (((16 - digits % 16) % 16) << 12) | count;
     let covered = format!("25014600{length:04X}{}", hex(&info));
     let check = covered.bytes().fold(0u16, |sum, c| sum.wrapping_sub(u16::from(c)));
     let reply = format!("~{covered}{check:04X}\r").into_bytes();

@@ -43,7 +43,7 @@ fn frame(s: &[u8]) -> Result<(u8, u8, &[u8]), u8> {
     let (covered, check) = inner.split_at(inner.len() - 4);
     let length = word(covered, 4);
     let digits = (length >> 12) + (length >> 8 & 15) + (length >> 4 & 15) + (length & 15);
-    if digits % 16 != 0 || usize::from(length & 0xFFF) != covered.len() - 12 {
+    if !digits.is_multiple_of(16) || usize::from(length & 0xFFF) != covered.len() - 12 {
         return Err(4);
     }
     let sum = covered.iter().fold(0u16, |sum, &c| sum.wrapping_add(u16::from(c)));
@@ -71,7 +71,7 @@ pub fn pace_read(address: u8, asked: u8, s: &[u8], row: &mut [i32]) -> Result<us
     }
     let n = info.len() / 2;
     let c = usize::from(byte(info, 2));
-    if c < 1 || c > CELLS || n < 2 * c + 4 {
+    if !(1..=CELLS).contains(&c) || n < 2 * c + 4 {
         return Err(8);
     }
     let t = usize::from(byte(info, 2 * c + 3));

@@ -94,7 +94,7 @@ fn monitor3(p: &[u8], row: &mut [i32]) -> Result<Reply, u8> {
     let b = c.div_ceil(8);
     let t = at(7 + 2 * c + b);
     let m = at(8 + 2 * c + b + t);
-    if c < 1 || c > 32 || t > 16 || m > 16 || p.len() != 16 + 2 * c + b + t + m {
+    if !(1..=32).contains(&c) || t > 16 || m > 16 || p.len() != 16 + 2 * c + b + t + m {
         return Err(8);
     }
     let row = row.get_mut(..MONITOR3).ok_or(11)?;

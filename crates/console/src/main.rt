@@ -1,61 +1,68 @@
-// The console: one line in, one line out (docs/CONSOLE.md). It reads standard input to its end in pieces, gathers lines, has each
-// answered, and writes all answers that it has before it waits for more input.
-mod check_lines;
-mod old_lines;
-mod pace_lines;
-mod pf_lines;
-mod restore_lines;
+// The console: one line in, one line out (docs/CONSOLE.md). A line is one of the calls that C and Rust link. It reads standard input to its
+// end in pieces, answers each line where it stands, and writes all answers that it has before it waits for more input.
+mod calls;
+mod lines;
 mod text;
-mod tz_lines;
 mod words;
 
 ghost use Prim.Native.Nat.{_<_};
 use libc::STDIN_FILENO;
 use libc::STDOUT_FILENO;
-use restore_lines::Kept;
-use restore_lines::Said;
+use words::Call;
 use words::Fault;
 
 // The longest line that is taken, its end not counted.
 const LONGEST: usize = 16384;
 
-// What is kept from piece to piece: how many bytes of a line have come, and what was said so far.
-struct Reader {
-    length: usize,
-    said: Said,
-}
+// As much is kept of a line whose end has not come: a line that has filled it is too long, whatever comes behind it.
+const KEPT: usize = 16386;
 
-// What is kept from read to read: how many bytes of a line have come, the job, and whether the input is at its end.
+// What is kept from read to read: how many bytes of a line have come, and whether the input is at its end.
 struct Turn {
     had: usize,
-    kept: Kept,
     ended: bool,
 }
 
+// How far the input is answered: the place behind the last line that ended, and how many bytes of answers are not written yet.
+struct Answered {
+    from: usize,
+    at: usize,
+}
+
 fn main() {
-    let mut line = [0u8; 16386];
+    let mut input = [0u8; 81920];
     let mut bytes = [0u8; 8192];
+    let mut string = [0u8; 8192];
     let mut row = [0i32; 16384];
+    let mut job = [255u8; 262];
     let mut out = [0u8; 65536];
-    talk(&mut line, &mut bytes, &mut row, &mut out);
+    talk(
+        &mut input,
+        &mut bytes,
+        &mut string,
+        &mut row,
+        &mut job,
+        &mut out,
+    );
 }
 
 // Reads until the input ends. Every loop must be shown to stop, so this one has a limit of reads, far above what any input takes.
-fn talk(line: &mut [u8], bytes: &mut [u8], row: &mut [i32], out: &mut [u8]) {
+fn talk(
+    input: &mut [u8],
+    bytes: &mut [u8],
+    string: &mut [u8],
+    row: &mut [i32],
+    job: &mut [u8],
+    out: &mut [u8],
+) {
     let mut t = Turn {
         had: 0,
-        kept: restore_lines::no_job(),
         ended: false,
     };
     let mut turns = u64::MAX;
     while turns > 0 {
-        t = read_once(line, bytes, row, out, t);
+        t = read_once(input, bytes, string, row, job, out, t.had);
         turns = fewer(turns, t.ended);
-    }
-    let had = t.had;
-    if 0 < had {
-        let said = end_line(line, had, bytes, row, out, start(t.kept));
-        flush(out, said.at);
     }
 }
 
@@ -66,166 +73,144 @@ fn fewer(turns: u64, ended: bool) -> u64
     if ended { 0 } else { turns - 1 }
 }
 
-fn start(kept: Kept) -> Said {
-    Said { at: 0, kept }
-}
-
-// Reads once, and answers the lines that ended.
-fn read_once(line: &mut [u8], bytes: &mut [u8], row: &mut [i32], out: &mut [u8], t: Turn) -> Turn {
-    let mut input = [0u8; 65536];
-    let got = libc::read(STDIN_FILENO, &mut input);
-    let n = io::count(got, &input);
-    let kept = t.kept;
-    if n == 0 {
+// Reads once and answers the lines that ended. Where nothing came the input is at its end, and what is left is its last line.
+fn read_once(
+    input: &mut [u8],
+    bytes: &mut [u8],
+    string: &mut [u8],
+    row: &mut [i32],
+    job: &mut [u8],
+    out: &mut [u8],
+    had: usize,
+) -> Turn {
+    let n = read_on(input, had);
+    let come = words::given(input, n as u64);
+    if n <= had {
+        let last = answer(come, bytes, string, row, job, out, 0);
+        flush(out, last);
         return Turn {
-            had: t.had,
-            kept,
+            had: 0,
             ended: true,
         };
     }
-    let r = gather(&input[..n], line, bytes, row, out, t.had, kept);
-    let said = r.said;
-    let kept = said.kept;
-    flush(out, said.at);
+    let done = answer_all(come, bytes, string, row, job, out);
+    flush(out, done.at);
     Turn {
-        had: r.length,
-        kept,
+        had: to_front(input, done.from, n),
         ended: false,
     }
 }
 
-// Takes what was read, answering each line that ends in it.
-fn gather(
+// Reads once, behind the bytes that are there; how many there are then.
+fn read_on(input: &mut [u8], had: usize) -> usize {
+    if input.len() < had {
+        return had;
+    }
+    let rest = &mut input[had..];
+    let got = libc::read(STDIN_FILENO, rest);
+    had + io::count(got, rest)
+}
+
+// Answers each line that ends in the input.
+fn answer_all(
     input: &[u8],
-    line: &mut [u8],
     bytes: &mut [u8],
+    string: &mut [u8],
     row: &mut [i32],
+    job: &mut [u8],
     out: &mut [u8],
-    had: usize,
-    kept: Kept,
-) -> Reader {
-    let mut r = Reader {
-        length: had,
-        said: start(kept),
-    };
-    let mut i = 0;
-    while i < input.len() {
-        let end = words::until(input, i, b'\n');
-        r = take(&input[i..end], end < input.len(), line, bytes, row, out, r);
-        i = end + 1;
+) -> Answered {
+    let mut at = 0;
+    let mut from = 0;
+    let mut end = words::until(input, 0, b'\n');
+    while end < input.len() {
+        let line = without_return(&input[from..end]);
+        let next = answer(line, bytes, string, row, job, out, at);
+        at = spare(out, next);
+        from = end + 1;
+        end = words::until(input, from, b'\n');
     }
-    r
+    Answered { from, at }
 }
 
-// Takes a piece of a line, its last one if the line ended.
-fn take(
-    piece: &[u8],
-    ended: bool,
-    line: &mut [u8],
-    bytes: &mut [u8],
-    row: &mut [i32],
-    out: &mut [u8],
-    r: Reader,
-) -> Reader {
-    let length = text::put_all(line, r.length, piece);
-    let said = r.said;
-    if !ended {
-        return Reader { length, said };
-    }
-    let n = without_return(line, length);
-    Reader {
-        length: 0,
-        said: end_line(line, n, bytes, row, out, said),
-    }
-}
-
-// The length of the line without a carriage return before its line feed.
-fn without_return(line: &[u8], length: usize) -> usize {
-    if 0 < length {
-        if length < line.len() {
-            if line[length - 1] == b'\r' {
-                return length - 1;
-            }
+// A line without a carriage return at its end.
+fn without_return(line: &[u8]) -> &[u8] {
+    let n = line.len();
+    if 0 < n {
+        if line[n - 1] == b'\r' {
+            return &line[0..n - 1];
         }
     }
-    length
+    line
 }
 
-// Answers a whole line, and makes room for the next answer.
-fn end_line(
-    line: &[u8],
-    length: usize,
-    bytes: &mut [u8],
-    row: &mut [i32],
-    out: &mut [u8],
-    said: Said,
-) -> Said {
-    let kept = said.kept;
-    if LONGEST < length {
-        let end = text::put_fault(out, said.at, Fault::LineTooLong);
-        return spare(out, Said { at: end, kept });
-    }
-    if line.len() < length {
-        return said;
-    }
-    let next = answer(&line[0..length], bytes, row, out, said.at, kept);
-    spare(out, next)
-}
-
-// The answer to a line, by its first word.
+// The answer to a line. Where it names no room, all that there is is lent.
 fn answer(
     line: &[u8],
     bytes: &mut [u8],
+    string: &mut [u8],
     row: &mut [i32],
-    out: &mut [u8],
-    at: usize,
-    kept: Kept,
-) -> Said {
-    let first = words::word(line, 0);
-    if check::same(first, b"restore") {
-        return restore_lines::answer(line, bytes, row, out, at, kept);
-    }
-    Said {
-        at: device(first, line, bytes, row, out, at),
-        kept,
-    }
-}
-
-// The answer to a line that leaves the job alone.
-fn device(
-    first: &[u8],
-    line: &[u8],
-    bytes: &mut [u8],
-    row: &mut [i32],
+    job: &mut [u8],
     out: &mut [u8],
     at: usize,
 ) -> usize {
-    if first.len() == 0 {
-        return at;
-    }
-    if first[0] == b'#' {
-        return at;
-    }
-    let number = words::index(b"pf tz pace old check", first);
-    match number {
-        0 => pf_lines::answer(line, bytes, row, out, at),
-        1 => tz_lines::answer(line, bytes, out, at),
-        2 => pace_lines::answer(line, bytes, out, at),
-        3 => old_lines::answer(line, bytes, out, at),
-        4 => check_lines::answer(line, bytes, out, at),
-        _ => text::put_fault(out, at, Fault::UnknownWord),
+    let mut v = [0u64; 10];
+    v[9] = 8192;
+    let call = calls::with_job(call_of(line, bytes, row, &mut v), job);
+    match call {
+        Call::Number(k) => {
+            let s = words::given(bytes, v[8]);
+            let code = calls::make(k, v, s, words::lent(string, v[9]), row, job);
+            lines::put_answer(out, at, k, code, row, string)
+        }
+        Call::Faulty(f) => text::put_fault(out, at, f),
+        Call::Nothing => at,
     }
 }
 
-// Writes the answers where half of the room is used.
-fn spare(out: &[u8], said: Said) -> Said {
-    let at = said.at;
-    if 32768 <= at {
-        flush(out, at);
-        start(said.kept)
-    } else {
-        said
+fn call_of(line: &[u8], bytes: &mut [u8], row: &mut [i32], values: &mut [u64; 10]) -> Call {
+    if LONGEST < line.len() {
+        return Call::Faulty(Fault::LineTooLong);
     }
+    if passed_over(words::word(line, 0)) {
+        return Call::Nothing;
+    }
+    lines::call_of(line, bytes, row, values)
+}
+
+// A line with no word, or whose first word begins with `#`, answers nothing.
+fn passed_over(first: &[u8]) -> bool {
+    if first.len() == 0 {
+        return true;
+    }
+    first[0] == b'#'
+}
+
+// The bytes of a line whose end has not come go to the front; how many they are.
+fn to_front(input: &mut [u8], from: usize, n: usize) -> usize {
+    let mut i = 0;
+    let mut j = from;
+    while j < n {
+        if KEPT <= i {
+            return i;
+        }
+        if input.len() <= j {
+            return i;
+        }
+        input[i] = input[j];
+        i += 1;
+        j += 1;
+    }
+    i
+}
+
+// The place of the next answer: those before it are written where half of the room is used.
+fn spare(out: &[u8], at: usize) -> usize {
+    if at < 32768 {
+        return at;
+    }
+    flush(out, at);
+    0
 }
 
 fn flush(out: &[u8], at: usize) {

@@ -1,92 +1,223 @@
 // Writing an answer into the room lent for it. Each function takes the place to write at and answers the place after what it wrote;
 // what does not fit is left out, and the room is larger than any answer.
-ghost use Prim.Native.Nat.{_≤_};
+//
+// An answer is a form: its text as docs/CONSOLE.md has it, in which a mark stands for a value that the call left in the row, in the text
+// lent to it, or in its own number:
+//
+//     #     the next number of the row
+//     %     the next number of the row, a byte in hex
+//     ?     the next two numbers: whether a value is known, and the value; `missing` where it is not
+//     ~     the next two numbers: the low and the high 32 bits of one
+//     [n]   from here on the numbers from place n on
+//     *     a list: as many numbers from there on as the last number written says, a space before each
+//     +     the same for bits: a number for each eight of them
+//     =     the answer's own number
+//     &     the answer's own number, a byte in hex
+//     $     as many bytes of the text, in hex; `-` for none
 use crate::words;
 use crate::words::Fault;
-use refusals::Refusal;
-use refusals::Written;
 
-// A value of a form is a number of 64 bits in two's complement. This one, which no field of a record has, is written as `missing`.
-pub const MISSING: u64 = 0x8000000000000000;
+// How far a form is written: the place of the next byte, the place of the row's next number, the last number written (first of all the
+// answer's own), and whether a place is being read.
+struct Spot {
+    at: usize,
+    place: usize,
+    last: u64,
+    inside: bool,
+}
 
-// One byte.
-fn put(out: &mut [u8], at: usize, b: u8) -> usize {
-    if at < out.len() {
-        out[at] = b;
-        at + 1
-    } else {
-        at
+// An answer, by the form of its kind; forms are parted by bars, that of kind 1 first. Kind 0 is a refusal.
+pub fn put_answer(
+    out: &mut [u8],
+    at: usize,
+    forms: &[u8],
+    code: u64,
+    row: &[i32],
+    text: &[u8],
+) -> usize {
+    let kind = (code / 4294967296) as usize;
+    let number = code % 4294967296;
+    if kind == 0 {
+        return put_form(out, at, b"refused =", number, row, text);
+    }
+    put_form(
+        out,
+        at,
+        words::piece(forms, kind - 1, b'|'),
+        number,
+        row,
+        text,
+    )
+}
+
+fn put_form(
+    out: &mut [u8],
+    from: usize,
+    form: &[u8],
+    number: u64,
+    row: &[i32],
+    text: &[u8],
+) -> usize {
+    let mut s = at_spot(from, 0, number, false);
+    let mut i = 0;
+    while i < form.len() {
+        s = put_mark(out, s, form[i], row, text);
+        i += 1;
+    }
+    put(out, s.at, b'\n')
+}
+
+fn at_spot(at: usize, place: usize, last: u64, inside: bool) -> Spot {
+    Spot {
+        at,
+        place,
+        last,
+        inside,
     }
 }
 
-// Some bytes.
-pub fn put_all(out: &mut [u8], from: usize, s: &[u8]) -> usize {
+// The next byte of a form.
+fn put_mark(out: &mut [u8], s: Spot, c: u8, row: &[i32], text: &[u8]) -> Spot {
+    let at = s.at;
+    let place = s.place;
+    match c {
+        b'*' => past(s, put_list(out, at, row, place, s.last), 0),
+        b'+' => past(s, put_list(out, at, row, place, eighths(s.last)), 0),
+        b'$' => past(s, put_string(out, at, text, s.last), 0),
+        _ => put_single(out, s, c, bits_at(row, place), bits_at(row, next(place))),
+    }
+}
+
+// A byte of a form that is no list; the next two numbers of the row.
+fn put_single(out: &mut [u8], s: Spot, c: u8, a: u32, b: u32) -> Spot {
+    let at = s.at;
+    if s.inside {
+        return at_spot(at, further(s.place, c), s.last, c != b']');
+    }
+    match c {
+        b'#' => at_spot(put_32(out, at, a), next(s.place), a as u64, false),
+        b'%' => past(s, put_byte(out, at, (a % 256) as u8), 1),
+        b'?' => past(s, put_known(out, at, a, b), 2),
+        b'~' => past(s, put_64(out, at, a as u64 + b as u64 * 4294967296), 2),
+        _ => put_own(out, s, c),
+    }
+}
+
+// A byte of a form that takes no number of the row.
+fn put_own(out: &mut [u8], s: Spot, c: u8) -> Spot {
+    let at = s.at;
+    match c {
+        b'[' => at_spot(at, 0, s.last, true),
+        b'=' => past(s, put_number(out, at, s.last), 0),
+        b'&' => past(s, put_byte(out, at, (s.last % 256) as u8), 0),
+        _ => past(s, put(out, at, c), 0),
+    }
+}
+
+// The spot past what was written, and past so many numbers of the row.
+fn past(s: Spot, at: usize, numbers: u8) -> Spot {
+    at_spot(at, s.place % 1000 + numbers as usize, s.last, s.inside)
+}
+
+// ---- numbers of the row
+
+// No row has as many as 1,000.
+fn next(place: usize) -> usize {
+    place % 1000 + 1
+}
+
+// A place with one digit more, or with `]` behind it.
+fn further(place: usize, c: u8) -> usize {
+    if c == b']' {
+        return place;
+    }
+    place % 100 * 10 + (c % 16) as usize
+}
+
+// The 32 bits of a number in two's complement.
+fn bits_at(row: &[i32], place: usize) -> u32 {
+    if place < row.len() {
+        signs::bits32(row[place])
+    } else {
+        0
+    }
+}
+
+// ---- values
+
+// A number by its 32 bits.
+fn put_32(out: &mut [u8], at: usize, bits: u32) -> usize {
+    if bits < 0x80000000 {
+        return put_number(out, at, bits as u64);
+    }
+    let digits = put(out, at, b'-');
+    put_number(out, digits, 0x100000000 - bits as u64)
+}
+
+// A number by its 64 bits.
+fn put_64(out: &mut [u8], at: usize, bits: u64) -> usize {
+    if bits < 0x8000000000000000 {
+        return put_number(out, at, bits);
+    }
+    let digits = put(out, at, b'-');
+    put_number(out, digits, u64::MAX - bits + 1)
+}
+
+fn put_known(out: &mut [u8], at: usize, known: u32, bits: u32) -> usize {
+    if known == 0 {
+        return put_all(out, at, b"missing");
+    }
+    put_32(out, at, bits)
+}
+
+// n numbers from this place of the row on, a space before each.
+fn put_list(out: &mut [u8], from: usize, row: &[i32], place: usize, n: u64) -> usize {
+    let mut at = from;
+    let mut i = place;
+    let mut left = n;
+    while 0 < left {
+        if row.len() <= i {
+            return at;
+        }
+        at = put_one(out, at, signs::bits32(row[i]));
+        i += 1;
+        left -= 1;
+    }
+    at
+}
+
+fn put_one(out: &mut [u8], at: usize, bits: u32) -> usize {
+    let number = put(out, at, b' ');
+    put_32(out, number, bits)
+}
+
+// How many eights hold so many.
+fn eighths(n: u64) -> u64 {
+    n / 8 + (n % 8 + 7) / 8
+}
+
+// The first n bytes of the text, `-` for none.
+fn put_string(out: &mut [u8], at: usize, text: &[u8], n: u64) -> usize {
+    if n == 0 {
+        return put(out, at, b'-');
+    }
+    put_bytes(out, at, words::given(text, n))
+}
+
+fn put_bytes(out: &mut [u8], from: usize, s: &[u8]) -> usize {
     let mut at = from;
     let mut i = 0;
     while i < s.len() {
-        at = put(out, at, s[i]);
+        at = put_byte(out, at, s[i]);
         i += 1;
     }
     at
-}
-
-// A form: its bytes as they stand, but for `#`, which is the next value in decimal, and `%`, which is the next value, a byte, in hex.
-pub fn put_form(out: &mut [u8], from: usize, form: &[u8], values: &[u64]) -> usize {
-    let mut at = from;
-    let mut next = 0;
-    let mut i = 0;
-    while i < form.len() {
-        let c = form[i];
-        at = put_part(out, at, c, value_at(values, next));
-        next = next_after(next, c);
-        i += 1;
-    }
-    at
-}
-
-// A form with one value.
-pub fn put_with(out: &mut [u8], at: usize, form: &[u8], v: u64) -> usize {
-    let values = [v];
-    put_form(out, at, form, &values)
-}
-
-fn put_part(out: &mut [u8], at: usize, c: u8, v: u64) -> usize {
-    match c {
-        35 => put_value(out, at, v),
-        37 => put_byte(out, at, byte_of(v)),
-        _ => put(out, at, c),
-    }
-}
-
-// The place of the value that comes after this byte of a form. No form has as many as 1,000.
-fn next_after(next: usize, c: u8) -> usize {
-    if c == b'#' || c == b'%' {
-        if next < 1000 { next + 1 } else { next }
-    } else {
-        next
-    }
-}
-
-fn value_at(values: &[u64], i: usize) -> u64 {
-    if i < values.len() { values[i] } else { 0 }
-}
-
-// A value in decimal.
-fn put_value(out: &mut [u8], at: usize, v: u64) -> usize {
-    if v == MISSING {
-        return put_all(out, at, b"missing");
-    }
-    if v < MISSING {
-        return put_number(out, at, v);
-    }
-    let sign = put(out, at, b'-');
-    put_number(out, sign, u64::MAX - v + 1)
 }
 
 fn put_number(out: &mut [u8], at: usize, n: u64) -> usize {
-    let mut text = [0u8; 20];
-    let k = io::decimal(n, &mut text);
-    put_all(out, at, &text[..k])
+    let mut digits = [0u8; 20];
+    let k = io::decimal(n, &mut digits);
+    put_all(out, at, &digits[..k])
 }
 
 // A byte as two hex digits.
@@ -97,119 +228,40 @@ fn put_byte(out: &mut [u8], at: usize, b: u8) -> usize {
 
 // A number below 16 as an upper-case hex digit.
 fn digit(n: u8) -> u8 {
-    if n < 10 {
-        48 + n
-    } else if n < 16 {
-        55 + n
+    if n < 10 { 48 + n } else { 55 + n % 16 }
+}
+
+// ---- bytes
+
+fn put(out: &mut [u8], at: usize, b: u8) -> usize {
+    if at < out.len() {
+        out[at] = b;
+        at + 1
     } else {
-        48
+        at
     }
 }
 
-// A line of some bytes and a byte string, `-` for none: the first n of those lent.
-pub fn put_bytes(out: &mut [u8], at: usize, name: &[u8], s: &[u8], n: usize) -> usize {
-    if s.len() < n {
-        return at;
-    }
-    let value = put_all(out, at, name);
-    if n == 0 {
-        return put_all(out, value, b"-\n");
-    }
-    let end = put_digits(out, value, &s[0..n]);
-    put(out, end, b'\n')
-}
-
-fn put_digits(out: &mut [u8], from: usize, s: &[u8]) -> usize {
+fn put_all(out: &mut [u8], from: usize, s: &[u8]) -> usize {
     let mut at = from;
     let mut i = 0;
     while i < s.len() {
-        at = put_byte(out, at, s[i]);
+        at = put(out, at, s[i]);
         i += 1;
     }
     at
 }
 
-// ---- lists: the first n numbers of those lent, a space before each
+// ---- lines that are no call
 
-pub fn put_u8s(out: &mut [u8], from: usize, s: &[u8], n: usize) -> usize {
-    let mut at = from;
-    let mut i = 0;
-    while i < s.len() {
-        if n <= i {
-            return at;
-        }
-        at = put_one(out, at, from_u8(s[i]));
-        i += 1;
-    }
-    at
-}
-
-pub fn put_i8s(out: &mut [u8], from: usize, s: &[i8], n: usize) -> usize {
-    let mut at = from;
-    let mut i = 0;
-    while i < s.len() {
-        if n <= i {
-            return at;
-        }
-        at = put_one(out, at, from_i8(s[i]));
-        i += 1;
-    }
-    at
-}
-
-pub fn put_u16s(out: &mut [u8], from: usize, s: &[u16], n: usize) -> usize {
-    let mut at = from;
-    let mut i = 0;
-    while i < s.len() {
-        if n <= i {
-            return at;
-        }
-        at = put_one(out, at, from_u16(s[i]));
-        i += 1;
-    }
-    at
-}
-
-pub fn put_i32s(out: &mut [u8], from: usize, s: &[i32], n: usize) -> usize {
-    let mut at = from;
-    let mut i = 0;
-    while i < s.len() {
-        if n <= i {
-            return at;
-        }
-        at = put_one(out, at, from_i32(s[i]));
-        i += 1;
-    }
-    at
-}
-
-fn put_one(out: &mut [u8], at: usize, v: u64) -> usize {
-    let value = put(out, at, b' ');
-    put_value(out, value, v)
-}
-
-// ---- answers that every device has
-
-pub fn put_refused(out: &mut [u8], at: usize, r: Refusal) -> usize {
-    put_with(out, at, b"refused #\n", from_u8(r.number))
-}
-
-// What a writer of requests answers: its frame stands at the front of the bytes.
-pub fn put_written(out: &mut [u8], at: usize, w: Written, bytes: &[u8]) -> usize {
-    match w {
-        Written::Frame(n) => put_bytes(out, at, b"ok frame ", bytes, n),
-        Written::Refused(r) => put_refused(out, at, r),
-    }
-}
-
-// What a line that is no call answers.
 pub fn put_fault(out: &mut [u8], at: usize, fault: Fault) -> usize {
-    put_nth(
-        out,
-        at,
-        b"? line too long|? unknown word|? too few words|? too many words|? not hex|? not a number|? number out of range|? no job",
+    let said = words::piece(
+        b"? line too long;? unknown word;? too few words;? too many words;? not hex;? not a number;? number out of range;? no job",
         number_of(fault),
-    )
+        b';',
+    );
+    let end = put_all(out, at, said);
+    put(out, end, b'\n')
 }
 
 fn number_of(fault: Fault) -> usize {
@@ -223,85 +275,4 @@ fn number_of(fault: Fault) -> usize {
         Fault::OutOfRange => 6,
         Fault::NoJob => 7,
     }
-}
-
-// The line with this number of those that are parted by bars.
-pub fn put_nth(out: &mut [u8], at: usize, texts: &[u8], number: usize) -> usize {
-    let end = put_all(out, at, words::piece(texts, number, b'|'));
-    put(out, end, b'\n')
-}
-
-// ---- values of other types
-
-pub fn from_u8(v: u8) -> u64 {
-    v as u64
-}
-
-pub fn from_u16(v: u16) -> u64 {
-    v as u64
-}
-
-pub fn from_u32(v: u32) -> u64 {
-    v as u64
-}
-
-pub fn from_usize(v: usize) -> u64 {
-    v as u64
-}
-
-pub fn from_i8(v: i8) -> u64 {
-    extended(signs::bits8(v) as u64, 0x80)
-}
-
-pub fn from_i16(v: i16) -> u64 {
-    extended(signs::bits16(v) as u64, 0x8000)
-}
-
-pub fn from_i32(v: i32) -> u64 {
-    extended(signs::bits32(v) as u64, 0x80000000)
-}
-
-// A number in two's complement, whose sign has this place value, in 64 bits.
-fn extended(bits: u64, sign: u64) -> u64 {
-    if bits < sign {
-        return bits;
-    }
-    if sign < 0x100000000 {
-        if bits < sign + sign {
-            return u64::MAX - (sign + sign - bits - 1);
-        }
-    }
-    0
-}
-
-pub fn from_i64(v: i64) -> u64 {
-    if 0 <= v {
-        return v as u64;
-    }
-    u64::MAX - (!v) as u64
-}
-
-// ---- parameters in the type of their call; their ranges were tested when they were read, so that nothing is cut off here
-
-pub fn byte_of(v: u64) -> u8 {
-    (v % 256) as u8
-}
-
-pub fn half_of(v: u64) -> u16 {
-    (v % 65536) as u16
-}
-
-pub fn short_of(v: u64) -> i16 {
-    signs::signed16(half_of(v))
-}
-
-pub fn word_of(v: u64) -> i32 {
-    signs::signed32((v % 4294967296) as u32)
-}
-
-// A number of places, no more than there are.
-pub fn places_of(v: u64, most: usize) -> usize
-    ensures { λ r. ⌜ r ≤ most ⌝ }
-{
-    if v < most as u64 { v as usize } else { most }
 }

@@ -15,55 +15,68 @@ pub enum Fault {
     NoJob,
 }
 
-// Which call a line is, by its place in the list of names; or why it is none.
+// Which call a line is, by its place in a list; or why it is none; or that it is passed over.
 pub enum Call {
     Number(usize),
     Faulty(Fault),
+    Nothing,
 }
 
-// One parameter; of a byte string its length, its bytes being in the room lent for them.
+// One parameter, in two's complement; of a byte string its length, of a list its end in the row.
 enum Parameter {
     Is(u64),
     Faulty(Fault),
 }
 
-// Which of these calls a line is, with the values of its parameters. The second word is one of `names`. Where there are `forms`, the
-// last name goes with one of them, at this place of the line, and the calls are counted on. `kinds` has a word for each call: what its
-// parameters are, which are the line's words from the third on, at most eight. A letter stands for one: `o` a byte of two hex digits, `h` a byte string,
-// `r` a number of places, `c` a number of 8 bits, `d` of 16 bits, `s` of 16 bits signed, `w` of 32 bits signed, `l` a list, which is left
-// to the call, and `.` the form. `-` is a call without parameters.
-pub fn call_of(
+// Where the values of a line's parameters stand: its parameters in order from 0 on, but for the length of its byte string and for its room.
+pub const GIVEN: usize = 8;
+
+pub const ROOM: usize = 9;
+
+// Which of a device's calls a line is, with the values of its parameters. The device is told by three lists, parted by bars: the names of its
+// calls, one of which is the line's second word; the forms of its last name, or `-`; and for each call what its parameters are, which
+// are the line's words from the third on. A letter stands for one: `o` a byte of two hex digits, `h` a byte string, `r` a number of
+// places, `c` a number of 8 bits, `d` of 16 bits, `s` of 16 bits signed, `w` of 32 bits signed, `l` a list, and `.` the form. `-` is a call
+// without parameters.
+pub fn call_in(
+    device: &[u8],
     line: &[u8],
-    names: &[u8],
-    place: usize,
-    forms: &[u8],
-    kinds: &[u8],
     bytes: &mut [u8],
-    values: &mut [u64; 8],
+    row: &mut [i32],
+    values: &mut [u64; 10],
 ) -> Call {
-    let chosen = choose(line, names, place, forms);
+    let kinds = piece(device, 2, b'|');
+    let chosen = choose(line, device, kinds);
     let Call::Number(k) = chosen else {
         return chosen;
     };
-    let own = word(kinds, k);
-    if check::same(own, b"-") {
-        return parameters(k, line, &own[0..0], bytes, values);
-    }
-    parameters(k, line, own, bytes, values)
+    let own = parameters_of(kinds, k);
+    let counted = count(k, line, own.len());
+    let Call::Number(_) = counted else {
+        return counted;
+    };
+    parameters(k, line, own, bytes, row, values)
 }
 
-fn choose(line: &[u8], names: &[u8], place: usize, forms: &[u8]) -> Call {
-    let first = index(names, word(line, 1));
+fn parameters_of(kinds: &[u8], k: usize) -> &[u8] {
+    let own = word(kinds, k);
+    if check::same(own, b"-") {
+        return &own[0..0];
+    }
+    own
+}
+
+fn choose(line: &[u8], device: &[u8], kinds: &[u8]) -> Call {
+    let first = index(piece(device, 0, b'|'), word(line, 1));
     if first == NONE {
         return unlisted(word(line, 1));
     }
-    if forms.len() == 0 {
+    let own = word(kinds, first);
+    let form = until(own, 0, b'.');
+    if form == own.len() {
         return Call::Number(first);
     }
-    if has(names, first + 1) {
-        return Call::Number(first);
-    }
-    choose_form(first, word(line, place), forms)
+    choose_form(first, word(line, form + 2), piece(device, 1, b'|'))
 }
 
 fn choose_form(first: usize, w: &[u8], forms: &[u8]) -> Call
@@ -77,7 +90,7 @@ fn choose_form(first: usize, w: &[u8], forms: &[u8]) -> Call
 }
 
 // What a line is whose choosing word is this one, and none that is listed.
-fn unlisted(w: &[u8]) -> Call {
+pub fn unlisted(w: &[u8]) -> Call {
     if w.len() == 0 {
         return Call::Faulty(Fault::TooFewWords);
     }
@@ -104,15 +117,8 @@ pub fn index(names: &[u8], w: &[u8]) -> usize
     NONE
 }
 
-// The call k, once the line has its parameters, each as it should be.
-fn parameters(
-    k: usize,
-    line: &[u8],
-    kinds: &[u8],
-    bytes: &mut [u8],
-    values: &mut [u64; 8],
-) -> Call {
-    let n = kinds.len();
+// The call k, once the line has n parameters.
+fn count(k: usize, line: &[u8], n: usize) -> Call {
     if 8 < n {
         return Call::Faulty(Fault::TooManyWords);
     }
@@ -122,11 +128,23 @@ fn parameters(
     if has(line, n + 2) {
         return Call::Faulty(Fault::TooManyWords);
     }
+    Call::Number(k)
+}
+
+// The call k, once each of its parameters is as it should be.
+fn parameters(
+    k: usize,
+    line: &[u8],
+    kinds: &[u8],
+    bytes: &mut [u8],
+    row: &mut [i32],
+    values: &mut [u64; 10],
+) -> Call {
     let mut i = 0;
-    while i < n {
-        let p = one_parameter(word(line, i + 2), kinds[i], bytes);
+    while i < kinds.len() {
+        let p = one_parameter(word(line, i + 2), kinds[i], bytes, row, values[0]);
         match p {
-            Parameter::Is(v) => values[i] = v,
+            Parameter::Is(v) => values[place_of(kinds[i], i)] = v,
             Parameter::Faulty(f) => return Call::Faulty(f),
         }
         i += 1;
@@ -134,10 +152,22 @@ fn parameters(
     Call::Number(k)
 }
 
-fn one_parameter(w: &[u8], kind: u8, bytes: &mut [u8]) -> Parameter {
+// Where the value of parameter i goes.
+fn place_of(kind: u8, i: usize) -> usize
+    ensures { λ r. ⌜ r ≤ 9 ⌝ }
+{
+    match kind {
+        b'h' => GIVEN,
+        b'r' => ROOM,
+        _ => i % 8,
+    }
+}
+
+fn one_parameter(w: &[u8], kind: u8, bytes: &mut [u8], row: &mut [i32], listed: u64) -> Parameter {
     match kind {
         b'o' => byte(w),
         b'h' => hex(w, bytes),
+        b'l' => list(w, row, listed),
         b'r' => number(w, 0, 8192),
         b'c' => number(w, 0, 255),
         b'd' => number(w, 0, 65535),
@@ -204,10 +234,8 @@ pub fn until(s: &[u8], from: usize, b: u8) -> usize
 
 // An even number of digits of either case, or `-` for no bytes.
 fn hex(w: &[u8], bytes: &mut [u8]) -> Parameter {
-    if w.len() == 1 {
-        if w[0] == b'-' {
-            return Parameter::Is(0);
-        }
+    if check::same(w, b"-") {
+        return Parameter::Is(0);
     }
     if w.len() % 2 == 0 {
         pairs(w, bytes)
@@ -223,15 +251,11 @@ fn pairs(w: &[u8], bytes: &mut [u8]) -> Parameter {
     }
     let mut i = 0;
     while i < n {
-        let high = digit(w[i * 2]);
-        let low = digit(w[i * 2 + 1]);
-        if 15 < high {
+        let b = pair(w[i * 2], w[i * 2 + 1]);
+        if 255 < b {
             return Parameter::Faulty(Fault::NotHex);
         }
-        if 15 < low {
-            return Parameter::Faulty(Fault::NotHex);
-        }
-        bytes[i] = high * 16 + low;
+        bytes[i] = (b % 256) as u8;
         i += 1;
     }
     Parameter::Is(n as u64)
@@ -242,15 +266,20 @@ fn byte(w: &[u8]) -> Parameter {
     if w.len() != 2 {
         return Parameter::Faulty(Fault::NotHex);
     }
-    let high = digit(w[0]);
-    let low = digit(w[1]);
-    if 15 < high {
+    let b = pair(w[0], w[1]);
+    if 255 < b {
         return Parameter::Faulty(Fault::NotHex);
     }
-    if 15 < low {
-        return Parameter::Faulty(Fault::NotHex);
+    Parameter::Is(b as u64)
+}
+
+// The byte of two hex digits, or more than a byte where one is none.
+fn pair(high: u8, low: u8) -> u16 {
+    let d = digit(low);
+    if 15 < d {
+        return 256;
     }
-    Parameter::Is((high * 16 + low) as u64)
+    digit(high) as u16 * 16 + d as u16
 }
 
 // What a hex digit of either case stands for, or 255.
@@ -277,12 +306,12 @@ fn number(w: &[u8], below: u64, high: u64) -> Parameter {
 }
 
 // Whether a word is a number: one or more digits, or `-` before them.
-pub fn is_number(w: &[u8]) -> bool {
+fn is_number(w: &[u8]) -> bool {
     all_decimal(unsigned(w))
 }
 
 // Whether a number is from -below to high.
-pub fn is_within(w: &[u8], below: u64, high: u64) -> bool {
+fn is_within(w: &[u8], below: u64, high: u64) -> bool {
     let n = size(unsigned(w));
     if is_negative(w) {
         return n <= below;
@@ -291,7 +320,7 @@ pub fn is_within(w: &[u8], below: u64, high: u64) -> bool {
 }
 
 // What a number is, in two's complement.
-pub fn value(w: &[u8]) -> u64 {
+fn value(w: &[u8]) -> u64 {
     let n = size(unsigned(w));
     if is_negative(w) {
         return negated(n);
@@ -322,9 +351,6 @@ fn unsigned(w: &[u8]) -> &[u8] {
 }
 
 fn all_decimal(s: &[u8]) -> bool {
-    if s.len() == 0 {
-        return false;
-    }
     let mut i = 0;
     while i < s.len() {
         if 9 < digit(s[i]) {
@@ -332,7 +358,7 @@ fn all_decimal(s: &[u8]) -> bool {
         }
         i += 1;
     }
-    true
+    0 < i
 }
 
 // The size of a number; where it is past all ranges, some number that is past them too.
@@ -349,4 +375,96 @@ fn size(s: &[u8]) -> u64 {
 // One decimal digit more.
 fn shifted(n: u64, d: u8) -> u64 {
     if n < 4294967296 { n * 10 + d as u64 } else { n }
+}
+
+// ---- lists
+
+// Numbers with single commas between them, or `-` for none, into the row from this place on. All must be numbers before any is too large.
+fn list(w: &[u8], row: &mut [i32], from: u64) -> Parameter {
+    if check::same(w, b"-") {
+        return Parameter::Is(from);
+    }
+    if !all_numbers(w) {
+        return Parameter::Faulty(Fault::NotANumber);
+    }
+    numbers_into(w, row, from)
+}
+
+fn all_numbers(w: &[u8]) -> bool {
+    let mut start = 0;
+    while start <= w.len() {
+        let end = until(w, start, b',');
+        if !is_number(&w[start..end]) {
+            return false;
+        }
+        start = end + 1;
+    }
+    true
+}
+
+fn numbers_into(w: &[u8], row: &mut [i32], from: u64) -> Parameter {
+    let mut place = from;
+    let mut start = 0;
+    while start <= w.len() {
+        let end = until(w, start, b',');
+        let one = number(&w[start..end], 2147483648, 2147483647);
+        let Parameter::Is(v) = one else {
+            return one;
+        };
+        place = store(row, place, v);
+        start = end + 1;
+    }
+    Parameter::Is(place)
+}
+
+// A number into the row; the place behind it.
+fn store(row: &mut [i32], place: u64, v: u64) -> u64 {
+    let n = row.len() as u64;
+    if place < n {
+        row[place as usize] = word_of(v);
+        return place + 1;
+    }
+    place
+}
+
+// ---- parameters in the type of their call; their ranges were tested when they were read, so that nothing is cut off here
+
+pub fn byte_of(v: u64) -> u8 {
+    (v % 256) as u8
+}
+
+pub fn half_of(v: u64) -> u16 {
+    (v % 65536) as u16
+}
+
+pub fn short_of(v: u64) -> i16 {
+    signs::signed16(half_of(v))
+}
+
+pub fn word_of(v: u64) -> i32 {
+    signs::signed32((v % 4294967296) as u32)
+}
+
+// A number of places, no more than there are.
+pub fn places_of(v: u64, most: usize) -> usize
+    ensures { λ r. ⌜ r ≤ most ⌝ }
+{
+    if v < most as u64 { v as usize } else { most }
+}
+
+// The first n bytes.
+pub fn given(bytes: &[u8], n: u64) -> &[u8] {
+    &bytes[0..places_of(n, bytes.len())]
+}
+
+// Room of n bytes.
+pub fn lent(room: &mut [u8], n: u64) -> &mut [u8] {
+    let places = places_of(n, room.len());
+    &mut room[0..places]
+}
+
+// A row of n numbers.
+pub fn lent_row(row: &mut [i32], n: u64) -> &mut [i32] {
+    let places = places_of(n, row.len());
+    &mut row[0..places]
 }

@@ -1,5 +1,4 @@
 // tzshow: reads one reply to Tongzhu's function 11 from standard input and prints it, a field to a line (01, Examples).
-ghost use Prim.Native.Nat.{_<_};
 use libc::STDIN_FILENO;
 use libc::STDOUT_FILENO;
 use monitor3_tongzhu::Status;
@@ -8,13 +7,13 @@ use records_tongzhu::Monitor2;
 use records_tongzhu::read_reply;
 
 fn main() {
-    // A frame has at most 255 bytes: a longer input is refused for its first 256 bytes as it is for all (`long-input` of frames_tongzhu).
+    // A frame has at most 255 bytes: a longer input is refused for its first 256 bytes as it is for all (`long-input` of frames_tongzhu), so
+    // no more is read, and an input without end is answered too.
     let mut bytes = [0u8; 256];
     let n = io::read_full(STDIN_FILENO, &mut bytes);
     let r = read_reply(0x11, &bytes[..n]);
     let answer = r.answer;
     show(answer);
-    drain();
 }
 
 // Prints an answer. Function 11 has no answer but these three.
@@ -76,26 +75,4 @@ fn wide(v: i8) -> i16 {
 
 fn put(s: &[u8]) {
     io::write_all(STDOUT_FILENO, s);
-}
-
-// Reads what is left of the input, so that whoever writes it is not cut off. The prover wants a loop that ends whatever the input does,
-// so the reads are counted, from more than there can be.
-fn drain() {
-    let mut turns = u64::MAX;
-    while turns > 0 {
-        turns = fewer(turns, at_end());
-    }
-}
-
-fn at_end() -> bool {
-    let mut rest = [0u8; 4096];
-    let got = libc::read(STDIN_FILENO, &mut rest);
-    io::count(got, &rest) == 0
-}
-
-fn fewer(turns: u64, ended: bool) -> u64
-    requires { ⌜ 0 < turns ⌝ }
-    ensures { λ r. ⌜ r < turns ⌝ }
-{
-    if ended { 0 } else { turns - 1 }
 }

@@ -19,28 +19,102 @@ pub mod old58;
 pub mod pace;
 pub mod pathfinder;
 pub mod restore;
+pub mod sums;
 pub mod tongzhu;
 
 /// Why a call gives no answer: a number of document 01. Everything lent then holds what it held.
 #[derive(Clone, Copy, Debug, PartialEq, Eq)]
-pub struct Refusal(pub u8);
+pub enum Refusal {
+    Short = 1,
+    FirstMark = 2,
+    LastMark = 3,
+    Length = 4,
+    Checksum = 5,
+    Address = 6,
+    Request = 7,
+    Shape = 8,
+    Range = 9,
+    Register = 10,
+    Room = 11,
+    WantedPair = 12,
+    Character = 13,
+    Turn = 14,
+    PresentPair = 15,
+}
 
-/// The room was too small.
-pub const ROOM: Refusal = Refusal(11);
+impl Refusal {
+    /// All of them, in the order of their numbers.
+    pub const ALL: [Refusal; 15] = [
+        Refusal::Short,
+        Refusal::FirstMark,
+        Refusal::LastMark,
+        Refusal::Length,
+        Refusal::Checksum,
+        Refusal::Address,
+        Refusal::Request,
+        Refusal::Shape,
+        Refusal::Range,
+        Refusal::Register,
+        Refusal::Room,
+        Refusal::WantedPair,
+        Refusal::Character,
+        Refusal::Turn,
+        Refusal::PresentPair,
+    ];
+
+    /// Its number in document 01.
+    pub fn number(self) -> u8 {
+        self as u8
+    }
+
+    /// A few words for it.
+    pub fn text(self) -> &'static str {
+        match self {
+            Refusal::Short => "the input is shorter than the smallest frame",
+            Refusal::FirstMark => "the first mark is wrong",
+            Refusal::LastMark => "the last mark is wrong",
+            Refusal::Length => "declared length and input length disagree, or PACE's length digit is wrong",
+            Refusal::Checksum => "the checksum is wrong",
+            Refusal::Address => "address, version or CID1 is wrong",
+            Refusal::Request => "the reply is to another request, or the request is not listed",
+            Refusal::Shape => "payload or argument of the wrong shape",
+            Refusal::Range => "a value is outside its range",
+            Refusal::Register => "the register is unknown",
+            Refusal::Room => "the room is too small",
+            Refusal::WantedPair => "a wanted pair is crossed",
+            Refusal::Character => "a PACE character is none of 0-9 and A-F",
+            Refusal::Turn => "a restore step is out of turn",
+            Refusal::PresentPair => "a present pair is crossed",
+        }
+    }
+}
+
+impl core::fmt::Display for Refusal {
+    fn fmt(&self, f: &mut core::fmt::Formatter<'_>) -> core::fmt::Result {
+        write!(f, "refused {}: {}", self.number(), self.text())
+    }
+}
+
+impl core::error::Error for Refusal {}
 
 pub type Result<T> = core::result::Result<T, Refusal>;
 
 /// A kind of answer and its number, or the refusal.
 fn told(answer: u64) -> Result<(u32, usize)> {
     match (answer >> 32) as u32 {
-        0 => Err(Refusal(answer as u8)),
+        0 => Err(Refusal::ALL[answer as usize - 1]),
         kind => Ok((kind, answer as u32 as usize)),
     }
 }
 
+/// The number of an answer that has one kind only.
+fn only(kind: u32, answer: u64) -> Result<usize> {
+    told(answer).map(|(told, n)| if told == kind { n } else { unlisted(told) })
+}
+
 /// How many bytes of a frame stand at the front of the room.
 fn written(answer: u64) -> Result<usize> {
-    told(answer).map(|(_, len)| len)
+    only(calls::FRAME, answer)
 }
 
 /// No call answers a kind that its promise does not list.

@@ -1,7 +1,7 @@
 //! The 58-byte monitor.
 
-use crate::calls::tracksaffron_old_read;
-use crate::{told, Result};
+use crate::calls::{tracksaffron_old_read, OLD_RECORD};
+use crate::{only, Result};
 
 /// Places of a record. A current that is missing is known 0 and 0 mA.
 pub mod record {
@@ -42,5 +42,6 @@ pub mod record {
 
 /// Reads a record into the front of the row, at the places of `record`.
 pub fn read(s: &[u8], row: &mut [i32]) -> Result<()> {
-    told(unsafe { tracksaffron_old_read(s.as_ptr(), s.len(), row.as_mut_ptr(), row.len()) }).map(|_| ())
+    let answer = unsafe { tracksaffron_old_read(s.as_ptr(), s.len(), row.as_mut_ptr(), row.len()) };
+    only(OLD_RECORD, answer).map(|_| ())
 }

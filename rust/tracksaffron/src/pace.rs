@@ -63,6 +63,24 @@ pub mod warnings {
     pub const NUMBERS: usize = 38;
 }
 
+/// A request to the pack with an address.
+#[derive(Clone, Copy, Debug, PartialEq, Eq)]
+pub enum Request {
+    /// One that carries no values, by its command.
+    Ask(u8),
+    CellOvervoltage {
+        alarm_mv: u16,
+        protect_mv: u16,
+        release_mv: u16,
+        delay_100ms: u8,
+    },
+    SlowDischarge {
+        alarm_a: u16,
+        protect_a: u16,
+        delay_100ms: u8,
+    },
+}
+
 /// Reads the reply to the command `asked` of this address.
 pub fn read(address: u8, asked: u8, s: &[u8], row: &mut [i32], text: &mut [u8]) -> Result<Reply> {
     let answer = unsafe {
@@ -78,14 +96,14 @@ pub fn read(address: u8, asked: u8, s: &[u8], row: &mut [i32], text: &mut [u8]) 
         )
     };
     told(answer).map(|(kind, n)| match kind {
-        1 => Reply::Analog,
-        2 => Reply::Warnings,
-        3 => Reply::Hardware,
-        4 => Reply::Serial(n),
-        5 => Reply::CellOvervoltage,
-        6 => Reply::SlowDischarge,
-        7 => Reply::Accepted,
-        8 => Reply::Failure(n as u8),
+        PACE_ANALOG => Reply::Analog,
+        PACE_WARNINGS => Reply::Warnings,
+        PACE_HARDWARE => Reply::Hardware,
+        PACE_SERIAL => Reply::Serial(n),
+        PACE_CELL_OVERVOLTAGE => Reply::CellOvervoltage,
+        PACE_SLOW_DISCHARGE => Reply::SlowDischarge,
+        PACE_ACCEPTED => Reply::Accepted,
+        PACE_FAILURE => Reply::Failure(n as u8),
         _ => unlisted(kind),
     })
 }
@@ -112,4 +130,28 @@ pub fn cell_overvoltage(
 /// Writes the request that sets the slow discharge current, in A and 100 ms; how many characters it has.
 pub fn slow_discharge(address: u8, alarm: u16, protect: u16, delay: u8, out: &mut [u8]) -> Result<usize> {
     written(unsafe { tracksaffron_pace_slow_discharge(address, alarm, protect, delay, out.as_mut_ptr(), out.len()) })
+}
+
+/// The address and the request that the characters are.
+pub fn parse(s: &[u8]) -> Result<(u8, Request)> {
+    let mut row = [0; 5];
+    let answer = unsafe { tracksaffron_pace_parse(s.as_ptr(), s.len(), row.as_mut_ptr(), row.len()) };
+    let byte = |place: usize| row[place] as u8;
+    let amount = |place: usize| row[place] as u16;
+    told(answer).map(|(kind, _)| {
+        let request = match kind {
+            PACE_ASK => Request::Ask(byte(1)),
+            PACE_SET_CELL_OVERVOLTAGE => Request::CellOvervoltage {
+                alarm_mv: amount(1),
+                protect_mv: amount(2),
+                release_mv: amount(3),
+                delay_100ms: byte(4),
+            },
+            PACE_SET_SLOW_DISCHARGE => {
+                Request::SlowDischarge { alarm_a: amount(1), protect_a: amount(2), delay_100ms: byte(3) }
+            }
+            _ => unlisted(kind),
+        };
+        (byte(0), request)
+    })
 }

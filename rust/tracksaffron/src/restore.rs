@@ -1,14 +1,16 @@
 //! The restore of Pathfinder settings 0 to 14. Its job lives in bytes, which may be stored and taken up again.
 
 use crate::calls::*;
-use crate::{told, unlisted, Result};
+use crate::{only, told, unlisted, Result};
 
-/// How many bytes a job has.
-pub const BYTES: usize = 262;
+/// How many bytes a job has, and how many words and values a restore opens on.
+pub const JOB_BYTES: usize = 262;
+pub const PRESENT_WORDS: usize = 50;
+pub const WANTED_VALUES: usize = 15;
 
 /// A restore that was opened.
 #[derive(Clone, Debug, PartialEq, Eq)]
-pub struct Job(pub [u8; BYTES]);
+pub struct Job(pub [u8; JOB_BYTES]);
 
 #[derive(Clone, Copy, Debug, PartialEq, Eq)]
 pub enum Step {
@@ -29,7 +31,7 @@ pub enum Outcome {
 impl Job {
     /// Opens a restore of a pack that holds the 50 words `present`, towards the 15 values `wanted`.
     pub fn open(present: &[i32], wanted: &[i32]) -> Result<Job> {
-        let mut job = [0; BYTES];
+        let mut job = [0; JOB_BYTES];
         let answer = unsafe {
             tracksaffron_restore_open(
                 present.as_ptr(),
@@ -40,7 +42,7 @@ impl Job {
                 job.len(),
             )
         };
-        told(answer).map(|_| Job(job))
+        only(RESTORE_OPENED, answer).map(|_| Job(job))
     }
 
     /// The next write as a frame.
@@ -48,8 +50,8 @@ impl Job {
         let answer =
             unsafe { tracksaffron_restore_next(self.0.as_mut_ptr(), self.0.len(), out.as_mut_ptr(), out.len()) };
         told(answer).map(|(kind, n)| match kind {
-            1 => Step::Frame(n),
-            2 => Step::Done,
+            RESTORE_FRAME => Step::Frame(n),
+            RESTORE_DONE => Step::Done,
             _ => unlisted(kind),
         })
     }
@@ -58,14 +60,14 @@ impl Job {
     pub fn reply(&mut self, s: &[u8]) -> Result<Outcome> {
         let answer = unsafe { tracksaffron_restore_reply(self.0.as_mut_ptr(), self.0.len(), s.as_ptr(), s.len()) };
         told(answer).map(|(kind, n)| match kind {
-            1 => Outcome::Written,
-            2 => Outcome::Failure(n as u8),
+            RESTORE_WRITTEN => Outcome::Written,
+            RESTORE_FAILURE => Outcome::Failure(n as u8),
             _ => unlisted(kind),
         })
     }
 
     /// How many settings differ from wanted in the job's picture; 8 where the bytes hold no job.
     pub fn left(&self) -> Result<usize> {
-        told(unsafe { tracksaffron_restore_left(self.0.as_ptr(), self.0.len()) }).map(|(_, n)| n)
+        only(RESTORE_LEFT, unsafe { tracksaffron_restore_left(self.0.as_ptr(), self.0.len()) })
     }
 }

@@ -70,17 +70,25 @@ pub struct Time {
     pub second: u8,
 }
 
+/// A request.
+#[derive(Clone, Copy, Debug, PartialEq, Eq)]
+pub enum Request {
+    /// One that asks for what a function reads.
+    Ask(u8),
+    SetTime(Time),
+}
+
 /// Reads the reply to the function `asked`.
 pub fn read(asked: u8, s: &[u8], row: &mut [i32]) -> Result<Reply> {
     let answer = unsafe { tracksaffron_tz_read(asked, s.as_ptr(), s.len(), row.as_mut_ptr(), row.len()) };
     told(answer).map(|(kind, _)| match kind {
-        1 => Reply::Monitor2,
-        2 => Reply::Monitor3,
-        3 => Reply::Status,
-        4 => Reply::Current,
-        5 => Reply::Done,
-        6 => Reply::NotDone,
-        7 => Reply::DeviceError,
+        TZ_MONITOR2 => Reply::Monitor2,
+        TZ_MONITOR3 => Reply::Monitor3,
+        TZ_STATUS => Reply::Status,
+        TZ_CURRENT => Reply::Current,
+        TZ_DONE => Reply::Done,
+        TZ_NOT_DONE => Reply::NotDone,
+        TZ_DEVICE_ERROR => Reply::DeviceError,
         _ => unlisted(kind),
     })
 }
@@ -94,5 +102,17 @@ pub fn ask(function: u8, out: &mut [u8]) -> Result<usize> {
 pub fn set_time(t: Time, out: &mut [u8]) -> Result<usize> {
     written(unsafe {
         tracksaffron_tz_set_time(t.year, t.month, t.day, t.hour, t.minute, t.second, out.as_mut_ptr(), out.len())
+    })
+}
+
+/// The request that the bytes are.
+pub fn parse(s: &[u8]) -> Result<Request> {
+    let mut row = [0; 6];
+    let answer = unsafe { tracksaffron_tz_parse(s.as_ptr(), s.len(), row.as_mut_ptr(), row.len()) };
+    let [first, month, day, hour, minute, second] = row.map(|n| n as u8);
+    told(answer).map(|(kind, _)| match kind {
+        TZ_ASK => Request::Ask(first),
+        TZ_SET_TIME => Request::SetTime(Time { year: first, month, day, hour, minute, second }),
+        _ => unlisted(kind),
     })
 }

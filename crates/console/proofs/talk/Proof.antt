@@ -7,13 +7,10 @@ use Rattle.console.proofs.talk.Statement.{statement}
 use Rattle.console.proofs.talk.Tie as tie
 
 abbrev Inv-loop : tie.InvT-loop
-Inv-loop line₀ bytes₀ row₀ out₀ t₀ turns₀ line bytes row out t turns = (length line ≡ length line₀) × (length bytes ≡ length bytes₀) × (length row ≡ length row₀) × (length out ≡ length out₀)
+Inv-loop input₀ bytes₀ string₀ row₀ job₀ out₀ t₀ turns₀ input bytes string row job out t turns = (length input ≡ length input₀) × (length bytes ≡ length bytes₀) × (length string ≡ length string₀) × (length row ≡ length row₀) × (length job ≡ length job₀) × (length out ≡ length out₀)
 
 abbrev μ-loop : tie.MeasureT-loop
-μ-loop line₀ bytes₀ row₀ out₀ t₀ turns₀ line bytes row out t turns = turns
-
-no-job-requires : tie.Need-no-job-requires Inv-loop μ-loop
-no-job-requires c κs = search needs
+μ-loop input₀ bytes₀ string₀ row₀ job₀ out₀ t₀ turns₀ input bytes string row job out t turns = turns
 
 loop-holds : tie.Need-loop-holds Inv-loop μ-loop
 loop-holds c = search needs
@@ -30,15 +27,6 @@ loop-less c = search needs
 loop-again : tie.Need-loop-again Inv-loop μ-loop
 loop-again c = search needs
 
-start-requires : tie.Need-start-requires Inv-loop μ-loop
-start-requires c κs = search needs
-
-end-line-requires : tie.Need-end-line-requires Inv-loop μ-loop
-end-line-requires c κs = search needs
-
-flush-requires : tie.Need-flush-requires Inv-loop μ-loop
-flush-requires c κs = search needs
-
 same-length : tie.Need-same-length Inv-loop μ-loop
 same-length c = search needs
 
@@ -51,23 +39,14 @@ same-length-3 c = search needs
 same-length-4 : tie.Need-same-length-4 Inv-loop μ-loop
 same-length-4 c = search needs
 
-returns : tie.Need-returns Inv-loop μ-loop
-returns c = search needs
-
 same-length-5 : tie.Need-same-length-5 Inv-loop μ-loop
 same-length-5 c = search needs
 
 same-length-6 : tie.Need-same-length-6 Inv-loop μ-loop
 same-length-6 c = search needs
 
-same-length-7 : tie.Need-same-length-7 Inv-loop μ-loop
-same-length-7 c = search needs
-
-same-length-8 : tie.Need-same-length-8 Inv-loop μ-loop
-same-length-8 c = search needs
-
-returns-2 : tie.Need-returns-2 Inv-loop μ-loop
-returns-2 c = search needs
+returns : tie.Need-returns Inv-loop μ-loop
+returns c = search needs
 
 pub talk-spec : {M : Type 1} → statement M
 talk-spec =
@@ -75,22 +54,15 @@ talk-spec =
     (tie.spec
     Inv-loop
     μ-loop
-    no-job-requires
     loop-holds
     read-once-requires
     fewer-requires
     loop-less
     loop-again
-    start-requires
-    end-line-requires
-    flush-requires
     same-length
     same-length-2
     same-length-3
     same-length-4
-    returns
     same-length-5
     same-length-6
-    same-length-7
-    same-length-8
-    returns-2)
+    returns)

@@ -8,25 +8,22 @@ use Rattle.console.proofs.text.put_form.Statement.{statement}
 use Rattle.console.proofs.text.put_form.Tie as tie
 
 abbrev Inv-loop : tie.InvT-loop
-Inv-loop out₀ from form values at₀ next₀ i₀ out at next i = (i ≤ length form) × (length out ≡ length out₀)
+Inv-loop out₀ from form number row text s₀ i₀ out s i = (i ≤ length form) × (length out ≡ length out₀)
 
 abbrev μ-loop : tie.MeasureT-loop
-μ-loop out₀ from form values at₀ next₀ i₀ out at next i = length form - i
+μ-loop out₀ from form number row text s₀ i₀ out s i = length form - i
+
+at-spot-requires : tie.Need-at-spot-requires Inv-loop μ-loop
+at-spot-requires c κs = search needs
 
 loop-holds : tie.Need-loop-holds Inv-loop μ-loop
 loop-holds c = search needs
 
-shared-slice-read-c : tie.Need-shared-slice-read-c Inv-loop μ-loop
-shared-slice-read-c c = search needs
+shared-slice-read-put-mark : tie.Need-shared-slice-read-put-mark Inv-loop μ-loop
+shared-slice-read-put-mark c = search needs
 
-value-at-requires : tie.Need-value-at-requires Inv-loop μ-loop
-value-at-requires c κs = search needs
-
-put-part-requires : tie.Need-put-part-requires Inv-loop μ-loop
-put-part-requires c κs = search needs
-
-next-after-requires : tie.Need-next-after-requires Inv-loop μ-loop
-next-after-requires c κs = search needs
+put-mark-requires : tie.Need-put-mark-requires Inv-loop μ-loop
+put-mark-requires c κs = search needs
 
 add-i : tie.Need-add-i Inv-loop μ-loop
 add-i c = search needs
@@ -36,6 +33,9 @@ loop-less c = search needs
 
 loop-again : tie.Need-loop-again Inv-loop μ-loop
 loop-again c = search needs
+
+put-requires : tie.Need-put-requires Inv-loop μ-loop
+put-requires c κs = search needs
 
 same-length : tie.Need-same-length Inv-loop μ-loop
 same-length c = search needs
@@ -49,13 +49,13 @@ put-form-spec =
     (tie.spec
     Inv-loop
     μ-loop
+    at-spot-requires
     loop-holds
-    shared-slice-read-c
-    value-at-requires
-    put-part-requires
-    next-after-requires
+    shared-slice-read-put-mark
+    put-mark-requires
     add-i
     loop-less
     loop-again
+    put-requires
     same-length
     returns)

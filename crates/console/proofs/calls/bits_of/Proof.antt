@@ -1,12 +1,12 @@
--- `console::text::from_i64` is safe: by its sign the number, or its bits turned over, is not negative.
+-- `console::calls::bits_of` is safe: by its sign the number, or its bits turned over, is not negative.
 -- Assumes nothing.
 use native.Mathlib.Omega.{arith}
 use mir.Syntax.{w64}
 use mir.ValLaws.{toZ-ofZ}
 use Rattle.signs.proofs.Signs.{up-cast, down-cast, down}
 use borrow.Author.Needs.{needs}
-use Rattle.console.proofs.text.from_i64.Statement.{statement}
-use Rattle.console.proofs.text.from_i64.Tie as tie
+use Rattle.console.proofs.calls.bits_of.Statement.{statement}
+use Rattle.console.proofs.calls.bits_of.Tie as tie
 
 cast-result : tie.Need-cast-result
 cast-result c = up-cast w64 (c .before .args .v) (c .before .fits .v) (c .if1 .taken)
@@ -25,5 +25,5 @@ sub-result c =
 returns-2 : tie.Need-returns-2
 returns-2 c = search needs
 
-pub from-i64-spec : {M : Type 1} → statement M
-from-i64-spec = tie.close (tie.spec cast-result returns cast-result-2 sub-result returns-2)
+pub bits-of-spec : {M : Type 1} → statement M
+bits-of-spec = tie.close (tie.spec cast-result returns cast-result-2 sub-result returns-2)

@@ -1,11 +1,11 @@
--- `console::text::put_digits` is safe and ends. The loop keeps its place within the bytes, and the room its length.
+-- `console::text::put_bytes` is safe and ends. The loop keeps its place within the bytes, and the room its length.
 -- Assumes nothing.
 use Prim.Native.Nat.{_≤_, _-_}
 use mathlib.Core.Path.{_≡_}
 use lib.ListN.{length}
 use borrow.Author.Needs.{needs}
-use Rattle.console.proofs.text.put_digits.Statement.{statement}
-use Rattle.console.proofs.text.put_digits.Tie as tie
+use Rattle.console.proofs.text.put_bytes.Statement.{statement}
+use Rattle.console.proofs.text.put_bytes.Tie as tie
 
 abbrev Inv-loop : tie.InvT-loop
 Inv-loop out₀ from s at₀ i₀ out at i = (i ≤ length s) × (length out ≡ length out₀)
@@ -37,8 +37,8 @@ same-length c = search needs
 returns : tie.Need-returns Inv-loop μ-loop
 returns c = search needs
 
-pub put-digits-spec : {M : Type 1} → statement M
-put-digits-spec =
+pub put-bytes-spec : {M : Type 1} → statement M
+put-bytes-spec =
     tie.close
     (tie.spec
     Inv-loop

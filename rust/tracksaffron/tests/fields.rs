@@ -1,0 +1,153 @@
+//! Made by tests/fields from tests/fields.txt: what every place that the crate names reads.
+
+mod tells;
+
+use tells::tells;
+use tracksaffron::old58::record;
+use tracksaffron::pace::{analog, warnings};
+use tracksaffron::tongzhu::{monitor2, monitor3};
+
+#[test]
+fn fields() {
+    let mut row = [0; monitor3::NUMBERS];
+
+    let frame = "7F10021B1101020304C9FD45103310FFFFF580419CC201F401C013";
+    assert!(tells("tz 11", frame, &mut row));
+    assert_eq!(row[monitor2::STATUS], 1);
+    assert_eq!(row[monitor2::STATUS + 3], 4);
+    assert_eq!(row[monitor2::CURRENT_100MA], -567);
+    assert_eq!(row[monitor2::HIGHEST_MV], 4165);
+    assert_eq!(row[monitor2::LOWEST_MV], 4147);
+    assert_eq!(row[monitor2::TOTAL_10MV], 65535);
+    assert_eq!(row[monitor2::HOTTEST_C], -11);
+    assert_eq!(row[monitor2::COLDEST_C], -128);
+    assert_eq!(row[monitor2::CYCLES], 40001);
+    assert_eq!(row[monitor2::REMAINING_100MAH], 450);
+    assert_eq!(row[monitor2::CAPACITY_100MAH], 500);
+    assert_eq!(row[monitor2::SWITCH], 192);
+    assert_eq!(monitor2::NUMBERS, 14);
+    assert!(tells("tz 11", frame, &mut row[..monitor2::NUMBERS]));
+    assert!(!tells("tz 11", frame, &mut row[..monitor2::NUMBERS - 1]));
+
+    let frame = "7F1002791205060708C7CF20B90BBA0BBB0BBC0BBD0BBE0BBF0BC00BC10BC20BC30BC40BC50BC60BC70BC80BC90BCA0BCB0BCC0BCD0BCE0BCF0BD00BD10BD20BD30BD40BD50BD60BD70BD80B112233440FFFFEFDFCFBFAF9F8F7F6F5F4F3F2F11032333435363738393A3B3C3D3E3F4041E903D20763EAC9E0";
+    assert!(tells("tz 12", frame, &mut row));
+    assert_eq!(row[monitor3::STATUS], 5);
+    assert_eq!(row[monitor3::STATUS + 3], 8);
+    assert_eq!(row[monitor3::CURRENT_100MA], -12345);
+    assert_eq!(row[monitor3::CELL_COUNT], 32);
+    assert_eq!(row[monitor3::SENSOR_COUNT], 15);
+    assert_eq!(row[monitor3::MOSFET_COUNT], 16);
+    assert_eq!(row[monitor3::CYCLES], 1001);
+    assert_eq!(row[monitor3::REMAINING_100MAH], 2002);
+    assert_eq!(row[monitor3::CAPACITY_100MAH], 60003);
+    assert_eq!(row[monitor3::SWITCH], 201);
+    assert_eq!(row[monitor3::CELLS_MV], 3001);
+    assert_eq!(row[monitor3::CELLS_MV + 31], 3032);
+    assert_eq!(row[monitor3::BALANCE], 17);
+    assert_eq!(row[monitor3::BALANCE + 3], 68);
+    assert_eq!(row[monitor3::SENSORS_C], -1);
+    assert_eq!(row[monitor3::SENSORS_C + 14], -15);
+    assert_eq!(row[monitor3::MOSFETS_C], 50);
+    assert_eq!(row[monitor3::MOSFETS_C + 15], 65);
+    assert_eq!(monitor3::NUMBERS, 80);
+    assert!(tells("tz 12", frame, &mut row[..monitor3::NUMBERS]));
+    assert!(!tells("tz 12", frame, &mut row[..monitor3::NUMBERS - 1]));
+
+    let frame = "~2501460060820001100C1D0C1E0C1F0C200C210C220C230C240C250C260C270C280C290C2A0C2B0C2C080A820A890A900A970A9E0AA50AAC0AB3FB2ECFDA269403271101412712E15A";
+    assert!(tells("pace 42", frame, &mut row));
+    assert_eq!(row[analog::CELL_COUNT], 16);
+    assert_eq!(row[analog::TEMPERATURE_COUNT], 8);
+    assert_eq!(row[analog::CURRENT_10MA], -1234);
+    assert_eq!(row[analog::TOTAL_MV], 53210);
+    assert_eq!(row[analog::REMAINING_10MAH], 9876);
+    assert_eq!(row[analog::FULL_10MAH], 10001);
+    assert_eq!(row[analog::CYCLES], 321);
+    assert_eq!(row[analog::DESIGN_10MAH], 10002);
+    assert_eq!(row[analog::CELLS_MV], 3101);
+    assert_eq!(row[analog::CELLS_MV + 15], 3116);
+    assert_eq!(row[analog::TEMPERATURES_DC], -40);
+    assert_eq!(row[analog::TEMPERATURES_DC + 7], 9);
+    assert_eq!(analog::NUMBERS, 32);
+    assert!(tells("pace 42", frame, &mut row[..analog::NUMBERS]));
+    assert!(!tells("pace 42", frame, &mut row[..analog::NUMBERS - 1]));
+
+    let frame = "~25014600B05000011065666768696A6B6C6D6E6F7071727374089798999A9B9C9D9EC9CACBCCCDCECFD0D1D2D3D4EB56";
+    assert!(tells("pace 44", frame, &mut row));
+    assert_eq!(row[warnings::CELL_COUNT], 16);
+    assert_eq!(row[warnings::TEMPERATURE_COUNT], 8);
+    assert_eq!(row[warnings::CHARGE_CURRENT], 201);
+    assert_eq!(row[warnings::TOTAL_VOLTAGE], 202);
+    assert_eq!(row[warnings::DISCHARGE_CURRENT], 203);
+    assert_eq!(row[warnings::PROTECTION1], 204);
+    assert_eq!(row[warnings::PROTECTION2], 205);
+    assert_eq!(row[warnings::SYSTEM], 206);
+    assert_eq!(row[warnings::CONFIGURATION], 207);
+    assert_eq!(row[warnings::FAULT], 208);
+    assert_eq!(row[warnings::BALANCE_HIGH], 209);
+    assert_eq!(row[warnings::BALANCE_LOW], 210);
+    assert_eq!(row[warnings::WARNING1], 211);
+    assert_eq!(row[warnings::WARNING2], 212);
+    assert_eq!(row[warnings::CELLS], 101);
+    assert_eq!(row[warnings::CELLS + 15], 116);
+    assert_eq!(row[warnings::TEMPERATURES], 151);
+    assert_eq!(row[warnings::TEMPERATURES + 7], 158);
+    assert_eq!(warnings::NUMBERS, 38);
+    assert!(tells("pace 44", frame, &mut row[..warnings::NUMBERS]));
+    assert!(!tells("pace 44", frame, &mut row[..warnings::NUMBERS - 1]));
+
+    let frame = "0186A12B07D1580BBA580FA302591502BE1600FA170141181964028D010DA50F42411E84822DC6C3573D09044C4B45162000A001F504B2044F80";
+    assert!(tells("old -", frame, &mut row));
+    assert_eq!(row[record::TOTAL_MV], 500005);
+    assert_eq!(row[record::CURRENT_KNOWN], 1);
+    assert_eq!(row[record::CURRENT_MA], 250125);
+    assert_eq!(row[record::CURRENT2_KNOWN], 0);
+    assert_eq!(row[record::CURRENT2_MA], 0);
+    assert_eq!(row[record::CURRENT3_KNOWN], 0);
+    assert_eq!(row[record::CURRENT3_MA], 0);
+    assert_eq!(row[record::LOWEST_MV], 3005);
+    assert_eq!(row[record::LOWEST_CELL], 21);
+    assert_eq!(row[record::HIGHEST_MV], 3510);
+    assert_eq!(row[record::HIGHEST_CELL], 22);
+    assert_eq!(row[record::COLDEST_C], -26);
+    assert_eq!(row[record::COLDEST_CELL], 23);
+    assert_eq!(row[record::HOTTEST_C], 45);
+    assert_eq!(row[record::HOTTEST_CELL], 24);
+    assert_eq!(row[record::CELL], 25);
+    assert_eq!(row[record::CELL_COUNT], 100);
+    assert_eq!(row[record::CELL_MV], 3265);
+    assert_eq!(row[record::CELL_C], -7);
+    assert_eq!(row[record::STATUS], 165);
+    assert_eq!(row[record::COLLECTED_TODAY_WH], 1000001);
+    assert_eq!(row[record::STORED_WH], 2000002);
+    assert_eq!(row[record::CONSUMED_TODAY_WH], 3000003);
+    assert_eq!(row[record::SOC_PERCENT], 87);
+    assert_eq!(row[record::COLLECTED_KWH], 4000004);
+    assert_eq!(row[record::CONSUMED_KWH], 5000005);
+    assert_eq!(row[record::HOUR], 22);
+    assert_eq!(row[record::MINUTE], 32);
+    assert_eq!(row[record::CAPACITY_100WH], 160);
+    assert_eq!(row[record::VMIN_COUNT], 501);
+    assert_eq!(row[record::VMAX_COUNT], 1202);
+    assert_eq!(row[record::VBYPASS_COUNT], 1103);
+    assert_eq!(record::NUMBERS, 32);
+    assert!(tells("old -", frame, &mut row[..record::NUMBERS]));
+    assert!(!tells("old -", frame, &mut row[..record::NUMBERS - 1]));
+
+    let frame = "0186A15807D12D0BBA580FA300000000000000000000000000000000000000000000000000000000000000000000000000000000000000000054";
+    assert!(tells("old -", frame, &mut row));
+    assert_eq!(row[record::CURRENT_KNOWN], 0);
+    assert_eq!(row[record::CURRENT_MA], 0);
+    assert_eq!(row[record::CURRENT2_KNOWN], 1);
+    assert_eq!(row[record::CURRENT2_MA], -375250);
+    assert_eq!(row[record::CURRENT3_KNOWN], 0);
+    assert_eq!(row[record::CURRENT3_MA], 0);
+
+    let frame = "0186A15807D1580BBA2B0FA300000000000000000000000000000000000000000000000000000000000000000000000000000000000000000052";
+    assert!(tells("old -", frame, &mut row));
+    assert_eq!(row[record::CURRENT_KNOWN], 0);
+    assert_eq!(row[record::CURRENT_MA], 0);
+    assert_eq!(row[record::CURRENT2_KNOWN], 0);
+    assert_eq!(row[record::CURRENT2_MA], 0);
+    assert_eq!(row[record::CURRENT3_KNOWN], 1);
+    assert_eq!(row[record::CURRENT3_MA], 500375);
+}
