@@ -2,14 +2,14 @@
 use crate::text;
 use crate::words;
 use crate::words::Call;
-use old58::Cell;
-use old58::Current;
-use old58::Energy;
-use old58::Extremes;
-use old58::Pack;
 use old58::Reading;
 use old58::Record;
-use old58::Setup;
+use parts_old58::Cell;
+use parts_old58::Current;
+use parts_old58::Energy;
+use parts_old58::Extremes;
+use parts_old58::Pack;
+use parts_old58::Setup;
 
 pub fn answer(line: &[u8], bytes: &mut [u8], out: &mut [u8], at: usize) -> usize {
     let mut v = [0u64; 8];

@@ -1,11 +1,11 @@
--- `old58::byte_at` meets its contract: past the end the definition has 0 too.
+-- `parts_old58::byte_at` meets its contract: past the end the definition has 0 too.
 -- Assumes nothing.
 use mathlib.Core.Path.{sym}
 use native.Mathlib.Omega.{arith}
 use lib.ListN.{List·getD-eq-default}
 use borrow.Author.Needs.{needs}
-use Rattle.old58.proofs.byte_at.Statement.{statement}
-use Rattle.old58.proofs.byte_at.Tie as tie
+use Rattle.parts_old58.proofs.byte_at.Statement.{statement}
+use Rattle.parts_old58.proofs.byte_at.Tie as tie
 
 returns : tie.Need-returns
 returns c = let a = c .before .args in sym (List·getD-eq-default (a .s .now) 0 (omega arith))

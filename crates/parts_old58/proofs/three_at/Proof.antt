@@ -1,10 +1,10 @@
--- `old58::three_at` meets its contract: the bytes are handed on; three bytes are below 2 ^ 24.
+-- `parts_old58::three_at` meets its contract: the bytes are handed on; three bytes are below 2 ^ 24.
 -- Assumes nothing.
 use native.Mathlib.Omega.{arith}
-use Rattle.old58.specs.Record.{threeAt}
+use Rattle.parts_old58.specs.Parts.{threeAt}
 use borrow.Author.Needs.{needs}
-use Rattle.old58.proofs.three_at.Statement.{statement}
-use Rattle.old58.proofs.three_at.Tie as tie
+use Rattle.parts_old58.proofs.three_at.Statement.{statement}
+use Rattle.parts_old58.proofs.three_at.Tie as tie
 
 byte-at-requires : tie.Need-byte-at-requires
 byte-at-requires c κs = search needs

@@ -1,9 +1,9 @@
--- `old58::two_at` meets its contract: the bytes are handed on.
+-- `parts_old58::two_at` meets its contract: the bytes are handed on.
 -- Assumes nothing.
-use Rattle.old58.specs.Record.{twoAt}
+use Rattle.parts_old58.specs.Parts.{twoAt}
 use borrow.Author.Needs.{needs}
-use Rattle.old58.proofs.two_at.Statement.{statement}
-use Rattle.old58.proofs.two_at.Tie as tie
+use Rattle.parts_old58.proofs.two_at.Statement.{statement}
+use Rattle.parts_old58.proofs.two_at.Tie as tie
 
 byte-at-requires : tie.Need-byte-at-requires
 byte-at-requires c κs = search needs

@@ -1,9 +1,9 @@
--- `old58::setup_of` meets its contract: each field is what its row's reader gives.
+-- `parts_old58::setup_of` meets its contract: each field is what its row's reader gives.
 -- Assumes nothing.
-use Rattle.old58.specs.Record.{setupOf}
+use Rattle.parts_old58.specs.Parts.{setupOf}
 use borrow.Author.Needs.{needs}
-use Rattle.old58.proofs.setup_of.Statement.{statement}
-use Rattle.old58.proofs.setup_of.Tie as tie
+use Rattle.parts_old58.proofs.setup_of.Statement.{statement}
+use Rattle.parts_old58.proofs.setup_of.Tie as tie
 
 byte-at-requires : tie.Need-byte-at-requires
 byte-at-requires c κs = search needs

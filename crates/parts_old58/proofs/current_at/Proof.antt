@@ -1,10 +1,10 @@
--- `old58::current_at` meets its contract: sign and count are handed on.
+-- `parts_old58::current_at` meets its contract: sign and count are handed on.
 -- Assumes nothing.
 use mathlib.Core.Path.{ap₂, _∙_}
-use Rattle.old58.specs.Record.{currentOf, currentAt}
+use Rattle.parts_old58.specs.Parts.{currentOf, currentAt}
 use borrow.Author.Needs.{needs}
-use Rattle.old58.proofs.current_at.Statement.{statement}
-use Rattle.old58.proofs.current_at.Tie as tie
+use Rattle.parts_old58.proofs.current_at.Statement.{statement}
+use Rattle.parts_old58.proofs.current_at.Tie as tie
 
 byte-at-requires : tie.Need-byte-at-requires
 byte-at-requires c κs = search needs

@@ -1,4 +1,4 @@
--- `old58::degrees_at` meets its contract: a count of two bytes less 276 is what 32 bits hold.
+-- `parts_old58::degrees_at` meets its contract: a count of two bytes less 276 is what 32 bits hold.
 -- Assumes nothing.
 use mathlib.Core.Path.{ap, _∙_}
 use native.Mathlib.Omega.{arith}
@@ -6,10 +6,10 @@ use lib.IntN.{pos, _-ℤ_}
 use mir.Syntax.{w32}
 use Prim.Native.Nat.{ℕ}
 use Rattle.laws.proofs.Differences.{minus-fits, minus-held}
-use Rattle.old58.specs.Record.{degreesAt}
+use Rattle.parts_old58.specs.Parts.{degreesAt}
 use borrow.Author.Needs.{needs}
-use Rattle.old58.proofs.degrees_at.Statement.{statement}
-use Rattle.old58.proofs.degrees_at.Tie as tie
+use Rattle.parts_old58.proofs.degrees_at.Statement.{statement}
+use Rattle.parts_old58.proofs.degrees_at.Tie as tie
 
 two-at-requires : tie.Need-two-at-requires
 two-at-requires c κs = search needs

@@ -1,11 +1,11 @@
--- `old58::volts_at` meets its contract: five times what `two_at` gives.
+-- `parts_old58::volts_at` meets its contract: five times what `two_at` gives.
 -- Assumes nothing.
 use Prim.Native.Nat.{ℕ, _*_}
 use mathlib.Core.Path.{ap}
-use Rattle.old58.specs.Record.{voltsAt}
+use Rattle.parts_old58.specs.Parts.{voltsAt}
 use borrow.Author.Needs.{needs}
-use Rattle.old58.proofs.volts_at.Statement.{statement}
-use Rattle.old58.proofs.volts_at.Tie as tie
+use Rattle.parts_old58.proofs.volts_at.Statement.{statement}
+use Rattle.parts_old58.proofs.volts_at.Tie as tie
 
 two-at-requires : tie.Need-two-at-requires
 two-at-requires c κs = search needs

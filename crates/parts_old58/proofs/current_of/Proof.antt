@@ -1,4 +1,4 @@
--- `old58::current_of` meets its contract: the amount is below 2 ^ 31, so that it and its opposite are what 32 bits hold.
+-- `parts_old58::current_of` meets its contract: the amount is below 2 ^ 31, so that it and its opposite are what 32 bits hold.
 -- Assumes nothing.
 use mathlib.Core.Path.{_∙_}
 use Prim.Native.Nat.{_*_}
@@ -7,10 +7,10 @@ use mir.Syntax.{w32}
 use mir.ValLaws.{toZ-pos}
 use borrow.Author.Tests.{ne-eqb}
 use Rattle.laws.proofs.Differences.{opposite-fits, opposite-held}
-use Rattle.old58.specs.Record.{currentOf}
+use Rattle.parts_old58.specs.Parts.{currentOf}
 use borrow.Author.Needs.{needs}
-use Rattle.old58.proofs.current_of.Statement.{statement}
-use Rattle.old58.proofs.current_of.Tie as tie
+use Rattle.parts_old58.proofs.current_of.Statement.{statement}
+use Rattle.parts_old58.proofs.current_of.Tie as tie
 
 mul-amount : tie.Need-mul-amount
 mul-amount c = search needs
