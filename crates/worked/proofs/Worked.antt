@@ -13,7 +13,7 @@ use Rattle.frames_tongzhu.specs.Writing.{frameBytes}
 use Rattle.requests_tongzhu.specs.Requests.{wireOf}
 use Rattle.characters_pace.specs.Characters.{allOf, halves}
 use Rattle.rows_pace.specs.Rows.{rowOf}
-use Rattle.rows_pace.specs.Info.{payload}
+use Rattle.writes_pace.specs.Info.{payload}
 use Rattle.settings_pace.specs.Reading.{shaped, amountOf, replyOf}
 use Rattle.analog_pace.specs.Analog.{tenthsOf}
 use Rattle.parts_old58.specs.Parts.{twoAt, currentOf, currentAt}

@@ -17,7 +17,7 @@ use Rattle.requests_tongzhu.specs.Requests.{Wire, bytes, none, wireOf}
 use Rattle.characters_pace.specs.Characters.{hexed}
 use Rattle.rows_pace.specs.declared.Setting.the-variants.{Discharge}
 use Rattle.rows_pace.specs.Rows.{amountsOf}
-use Rattle.rows_pace.specs.Info.{infoOf}
+use Rattle.writes_pace.specs.Info.{infoOf}
 use Rattle.settings_pace.specs.declared.Found.{Found}
 use Rattle.settings_pace.specs.declared.Found.the-variants.{Set, Refused}
 use Rattle.settings_pace.specs.Reading.{replyOf}

@@ -11,12 +11,13 @@ use lib.ListN.{length, take, drop, set, replicate, length-append}
 use Rattle.laws.proofs.Filling.{one-more, part-more, front-taken}
 use Rattle.characters_pace.specs.Characters.{allOf}
 use Rattle.characters_pace.proofs.Halves.{halves-length}
-use Rattle.rows_pace.specs.declared.Info.{Info}
+use Rattle.writes_pace.specs.declared.Info.{Info}
 use Rattle.rows_pace.specs.declared.Row.{Row}
 use Rattle.rows_pace.specs.declared.Values.{Values}
-use Rattle.rows_pace.specs.Rows.{rowOf, settingOf, amountsOf, delayOf, inSteps, allowed, allowedOf}
-use Rattle.rows_pace.specs.Info.{pairsOf, payload, infoOf, infoRecord}
+use Rattle.rows_pace.specs.Rows.{rowOf, settingOf, amountsOf, delayOf}
+use Rattle.writes_pace.specs.Allowed.{inSteps, allowed, allowedOf}
+use Rattle.writes_pace.specs.Info.{pairsOf, payload, infoOf, infoRecord}
 use Rattle.rows_pace.proofs.Rows.{few, steps, amounts-count}
 
 -- ---- may they be written?
 

@@ -1,14 +1,14 @@
--- `rows_pace::info_of` meets its contract: lead byte, amounts and delay are stored one after another over zeros.
+-- `writes_pace::info_of` meets its contract: lead byte, amounts and delay are stored one after another over zeros.
 -- Assumes nothing.
 use Prim.Native.Nat.{_≤_}
 use mathlib.Core.Path.{_≡_, ap, _∙_}
 use native.Mathlib.Omega.{arith}
 use lib.ListN.{length}
 use Rattle.rows_pace.specs.Rows.{rowOf, settingOf}
-use Rattle.rows_pace.proofs.Judged.{row-few, info-is}
+use Rattle.writes_pace.proofs.Judged.{row-few, info-is}
 use borrow.Author.Needs.{needs}
-use Rattle.rows_pace.proofs.info_of.Statement.{statement}
-use Rattle.rows_pace.proofs.info_of.Tie as tie
+use Rattle.writes_pace.proofs.info_of.Statement.{statement}
+use Rattle.writes_pace.proofs.info_of.Tie as tie
 
 is-row : (c : tie.After-row-of) → c .row-of .result ≡ rowOf (settingOf (c .before .before .args .v))
 is-row c = c .row-of .ensures ∙ ap rowOf (c .before .parts-of .ensures .0)

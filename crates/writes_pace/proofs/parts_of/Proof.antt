@@ -1,9 +1,9 @@
--- `rows_pace::parts_of` meets its contract: by the setting.
+-- `writes_pace::parts_of` meets its contract: by the setting.
 -- Assumes nothing.
 use mathlib.Core.Path.{refl}
 use borrow.Author.Needs.{needs}
-use Rattle.rows_pace.proofs.parts_of.Statement.{statement}
-use Rattle.rows_pace.proofs.parts_of.Tie as tie
+use Rattle.writes_pace.proofs.parts_of.Statement.{statement}
+use Rattle.writes_pace.proofs.parts_of.Tie as tie
 
 enum-known-v : tie.Need-enum-known-v
 enum-known-v c = search needs

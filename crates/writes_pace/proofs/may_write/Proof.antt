@@ -1,14 +1,14 @@
--- `rows_pace::may_write` meets its contract: the part that is lent holds the amounts, and the two tests are the definition's.
+-- `writes_pace::may_write` meets its contract: the part that is lent holds the amounts, and the two tests are the definition's.
 -- Assumes nothing.
 use lib.ListN.{length}
 use mathlib.Core.Path.{_≡_, ap, _∙_}
 use native.Mathlib.Omega.{arith}
 use borrow.Author.Tests.{not-true, not-false}
 use Rattle.rows_pace.specs.Rows.{rowOf, settingOf}
-use Rattle.rows_pace.proofs.Judged.{row-few, row-steps, amounts-decide, delay-decides}
+use Rattle.writes_pace.proofs.Judged.{row-few, row-steps, amounts-decide, delay-decides}
 use borrow.Author.Needs.{needs}
-use Rattle.rows_pace.proofs.may_write.Statement.{statement}
-use Rattle.rows_pace.proofs.may_write.Tie as tie
+use Rattle.writes_pace.proofs.may_write.Statement.{statement}
+use Rattle.writes_pace.proofs.may_write.Tie as tie
 
 is-row : (c : tie.After-row-of) → c .row-of .result ≡ rowOf (settingOf (c .before .before .args .v))
 is-row c = c .row-of .ensures ∙ ap rowOf (c .before .parts-of .ensures .0)

@@ -4,10 +4,10 @@ use mathlib.Core.List.{List, [], _∷_, _++_}
 use Prim.Native.Nat.{ℕ, _/_, _%_}
 use lib.ListN.{length, drop, replicate}
 use Rattle.characters_pace.specs.Characters.{halves}
-use Rattle.rows_pace.specs.declared.Info.{Info}
+use Rattle.writes_pace.specs.declared.Info.{Info}
 use Rattle.rows_pace.specs.declared.Row.{Row}
 use Rattle.rows_pace.specs.declared.Values.{Values}
 use Rattle.rows_pace.specs.Rows.{rowOf, settingOf, amountsOf, delayOf}
 
 -- numbers as two bytes each
 abbrev pub pairsOf : List ℕ → List ℕ

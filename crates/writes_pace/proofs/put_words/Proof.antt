@@ -1,4 +1,4 @@
--- `rows_pace::put_words` meets its contract. The loop's invariant: the bytes of the numbers passed stand in front of what was there.
+-- `writes_pace::put_words` meets its contract. The loop's invariant: the bytes of the numbers passed stand in front of what was there.
 -- Assumes nothing.
 use Prim.Native.Nat.{ℕ, _+_, _-_, _*_, _/_, _%_, _≤_}
 use mathlib.Core.Path.{_≡_, refl, ap, _∙_}
@@ -9,9 +9,9 @@ use lib.Seq.{take-all}
 use borrow.Author.Needs.{needs}
 use Rattle.characters_pace.specs.Characters.{halves}
 use Rattle.characters_pace.proofs.Halves.{halves-more}
-use Rattle.rows_pace.specs.Info.{pairsOf}
-use Rattle.rows_pace.proofs.put_words.Statement.{statement}
-use Rattle.rows_pace.proofs.put_words.Tie as tie
+use Rattle.writes_pace.specs.Info.{pairsOf}
+use Rattle.writes_pace.proofs.put_words.Statement.{statement}
+use Rattle.writes_pace.proofs.put_words.Tie as tie
 
 abbrev Inv-loop : tie.InvT-loop
 Inv-loop words out₀ i₀ out i = (i ≤ length words) × ((out ≡ pairsOf (take i words) ++ drop (2 * i) out₀) × (length out ≡ length out₀))
