@@ -6,7 +6,7 @@ use native.Mathlib.Omega.{arith}
 use lib.ListN.{getD}
 use mir.Syntax.{w8}
 use mir.Val.{Fits}
-use Rattle.old58.specs.Record.{twoAt, threeAt, voltsAt, packOf, extremesOf, cellOf, energyOf}
+use Rattle.parts_old58.specs.Parts.{twoAt, threeAt, voltsAt, packOf, extremesOf, cellOf, energyOf}
 use Rattle.exports_old58.specs.Records.{SmallEnergy}
 
 module _ (s : List ℕ) (byte : (i : ℕ) → Fits w8 (getD s i 0)) where

@@ -3,13 +3,13 @@
 use Prim.Native.Nat.{ℕ, _<_}
 use mathlib.Core.List.{List, [], _∷_}
 use lib.IntN.{ℤ, pos}
-use Rattle.old58.specs.declared.Current.{Current}
-use Rattle.old58.specs.declared.Current.the-variants.{Milliamps, Missing}
-use Rattle.old58.specs.declared.Pack.{Pack}
-use Rattle.old58.specs.declared.Extremes.{Extremes}
-use Rattle.old58.specs.declared.Cell.{Cell}
-use Rattle.old58.specs.declared.Energy.{Energy}
-use Rattle.old58.specs.declared.Setup.{Setup}
+use Rattle.parts_old58.specs.declared.Current.{Current}
+use Rattle.parts_old58.specs.declared.Current.the-variants.{Milliamps, Missing}
+use Rattle.parts_old58.specs.declared.Pack.{Pack}
+use Rattle.parts_old58.specs.declared.Extremes.{Extremes}
+use Rattle.parts_old58.specs.declared.Cell.{Cell}
+use Rattle.parts_old58.specs.declared.Energy.{Energy}
+use Rattle.parts_old58.specs.declared.Setup.{Setup}
 use Rattle.old58.specs.declared.Record.{Record}
 use Rattle.old58.specs.declared.Reading.{Reading}
 use Rattle.old58.specs.declared.Reading.the-variants.{Whole, Refused}

@@ -1,22 +1,20 @@
 // The 58-byte monitor for other languages (`rt staticlib exports_old58`): numbers and slices only, safe with any input.
 // `specs/Records.antt` says at which place of the row each value stands.
-use exports_rows::byte;
 use exports_rows::coded;
-use exports_rows::half;
 use exports_rows::put_i32;
-use old58::Cell;
-use old58::Current;
-use old58::Energy;
-use old58::Extremes;
 use old58::Judged;
-use old58::Pack;
-use old58::Setup;
-use old58::cell_of;
-use old58::energy_of;
-use old58::extremes_of;
 use old58::judge;
-use old58::pack_of;
-use old58::setup_of;
+use parts_old58::Cell;
+use parts_old58::Current;
+use parts_old58::Energy;
+use parts_old58::Extremes;
+use parts_old58::Pack;
+use parts_old58::Setup;
+use parts_old58::cell_of;
+use parts_old58::energy_of;
+use parts_old58::extremes_of;
+use parts_old58::pack_of;
+use parts_old58::setup_of;
 ghost use mathlib.Core.Path.{_≡_};
 ghost use Prim.Native.Nat.{_<_};
 ghost use lib.IntN.{pos};
@@ -115,13 +113,13 @@ fn extremes_numbers(e: Extremes) -> [i32; 8]
 {
     [
         word(e.lowest_mv),
-        byte(e.lowest_cell),
+        e.lowest_cell as i32,
         word(e.highest_mv),
-        byte(e.highest_cell),
+        e.highest_cell as i32,
         e.coldest_c,
-        byte(e.coldest_cell),
+        e.coldest_cell as i32,
         e.hottest_c,
-        byte(e.hottest_cell),
+        e.hottest_cell as i32,
     ]
 }
 
@@ -130,11 +128,11 @@ fn cell_numbers(k: Cell) -> [i32; 5]
     ensures { λ r. ⌜ r ≡ cellNumbers k ⌝ }
 {
     [
-        byte(k.cell),
-        byte(k.cells),
+        k.cell as i32,
+        k.cells as i32,
         word(k.cell_mv),
         k.cell_c,
-        byte(k.status),
+        k.status as i32,
     ]
 }
 
@@ -146,7 +144,7 @@ fn energy_numbers(e: Energy) -> [i32; 6]
         word(e.collected_today_wh),
         word(e.stored_wh),
         word(e.consumed_today_wh),
-        byte(e.soc_percent),
+        e.soc_percent as i32,
         word(e.collected_kwh),
         word(e.consumed_kwh),
     ]
@@ -156,11 +154,11 @@ fn setup_numbers(s: Setup) -> [i32; 6]
     ensures { λ r. ⌜ r ≡ setupNumbers s ⌝ }
 {
     [
-        byte(s.hour),
-        byte(s.minute),
-        half(s.capacity_100wh),
-        half(s.vmin_count),
-        half(s.vmax_count),
-        half(s.vbypass_count),
+        s.hour as i32,
+        s.minute as i32,
+        s.capacity_100wh as i32,
+        s.vmin_count as i32,
+        s.vmax_count as i32,
+        s.vbypass_count as i32,
     ]
 }

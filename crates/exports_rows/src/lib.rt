@@ -79,7 +79,8 @@ pub fn put_u8(numbers: &[u8], at: usize, row: &mut [i32])
     }
     let mut i = 0;
     while i < numbers.len() {
-        row[at + i] = byte(numbers[i]);
+        let byte = numbers[i] as i32;
+        row[at + i] = byte;
         i += 1;
     }
 }
@@ -96,32 +97,8 @@ pub fn put_u16(numbers: &[u16], at: usize, row: &mut [i32])
     }
     let mut i = 0;
     while i < numbers.len() {
-        row[at + i] = half(numbers[i]);
+        let half = numbers[i] as i32;
+        row[at + i] = half;
         i += 1;
     }
-}
-
-// One value as a number of the row.
-pub fn byte(b: u8) -> i32
-    ensures { λ r. ⌜ r ≡ pos b ⌝ }
-{
-    b as i32
-}
-
-pub fn half(h: u16) -> i32
-    ensures { λ r. ⌜ r ≡ pos h ⌝ }
-{
-    h as i32
-}
-
-pub fn signed(v: i8) -> i32
-    ensures { λ r. ⌜ r ≡ v ⌝ }
-{
-    v as i32
-}
-
-pub fn signed_half(w: i16) -> i32
-    ensures { λ r. ⌜ r ≡ w ⌝ }
-{
-    w as i32
 }

@@ -10,7 +10,7 @@ use lib.ListN.{length, getD, take}
 use Rattle.sums.specs.Sums.{total}
 use Rattle.refusals.specs.Refused.{refusedWith, short, lengths, checksum, range}
 use Rattle.old58.specs.declared.Judged.the-variants.{Sound, Refused}
-use Rattle.old58.specs.Record.{byteAt}
+use Rattle.parts_old58.specs.Parts.{byteAt}
 use Rattle.old58.specs.Read.{signKnown, ranged, judgedOf}
 
 -- ---- the ranges

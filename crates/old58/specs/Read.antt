@@ -13,7 +13,8 @@ use Rattle.old58.specs.declared.Reading.{Reading}
 use Rattle.old58.specs.declared.Reading.the-variants.{Whole, Refused as NoRecord}
 use Rattle.old58.specs.declared.Judged.{Judged}
 use Rattle.old58.specs.declared.Judged.the-variants.{Sound, Refused}
-use Rattle.old58.specs.Record.{byteAt, recordOf}
+use Rattle.parts_old58.specs.Parts.{byteAt}
+use Rattle.old58.specs.Record.{recordOf}
 
 -- +, - and X
 unfoldable pub signKnown : ℕ → Bool

@@ -30,8 +30,9 @@ use Rattle.rows_pace.specs.declared.Command.the-variants as command
 use Rattle.rows_pace.specs.declared.Setting.{Setting}
 use Rattle.rows_pace.specs.declared.Values.{Values}
 use Rattle.rows_pace.specs.Commands.{commandOf}
-use Rattle.rows_pace.specs.Rows.{rowOf, settingOf, allowedOf}
-use Rattle.rows_pace.specs.Info as rows
+use Rattle.rows_pace.specs.Rows.{rowOf, settingOf}
+use Rattle.writes_pace.specs.Allowed.{allowedOf}
+use Rattle.writes_pace.specs.Info as rows
 use Rattle.rows_pace.proofs.Commands.{writes-itself, writes-small, writes-only}
 use Rattle.settings_pace.specs.declared.Found.{Found}
 use Rattle.settings_pace.specs.declared.Found.the-variants as setting

@@ -12,11 +12,11 @@ use Rattle.refusals.specs.declared.Written.{Written}
 use Rattle.refusals.specs.declared.Written.the-variants.{Frame, Refused}
 use Rattle.refusals.specs.Refused.{refusedWith, range}
 use Rattle.frames_pace.specs.Written as frames
-use Rattle.rows_pace.specs.declared.Info.{Info}
+use Rattle.writes_pace.specs.declared.Info.{Info}
 use Rattle.rows_pace.specs.declared.Values.{Values}
 use Rattle.rows_pace.specs.Commands.{commandOf}
-use Rattle.rows_pace.specs.Rows.{allowedOf}
-use Rattle.rows_pace.specs.Info as rows
+use Rattle.writes_pace.specs.Allowed.{allowedOf}
+use Rattle.writes_pace.specs.Info as rows
 use Rattle.requests_pace.specs.declared.Kind.{Kind}
 use Rattle.requests_pace.specs.declared.Request.{Request}
 use Rattle.requests_pace.specs.declared.Request.the-variants.{Ask, Set}

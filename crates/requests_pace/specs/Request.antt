@@ -11,8 +11,9 @@ use Rattle.frames_pace.specs.Written as frames
 use Rattle.rows_pace.specs.declared.Command.{Command}
 use Rattle.rows_pace.specs.declared.Command.the-variants as command
 use Rattle.rows_pace.specs.Commands.{commandOf}
-use Rattle.rows_pace.specs.Rows.{rowOf, settingOf, allowedOf}
-use Rattle.rows_pace.specs.Info as rows
+use Rattle.rows_pace.specs.Rows.{rowOf, settingOf}
+use Rattle.writes_pace.specs.Allowed.{allowedOf}
+use Rattle.writes_pace.specs.Info as rows
 use Rattle.requests_pace.specs.declared.Kind.{Kind}
 use Rattle.requests_pace.specs.declared.Kind.the-variants.{Addressed, Bare, Carries, Unlisted}
 use Rattle.requests_pace.specs.declared.Request.{Request}

@@ -1,12 +1,10 @@
 -- The settings of a PACE pack, one row each: its commands, its shape in INFO and what may be written (004, "Parameter Setting" tab; 01, PACE).
 -- A row more is a case more here and an entry more in the list.
 -- Assumes nothing.
-use mathlib.Core.Bool.{Bool, true, false, _&&_}
+use mathlib.Core.Bool.{true, false}
 use mathlib.Core.List.{List, [], _∷_}
-use Prim.Native.Nat.{ℕ, _-_, _%_}
-use lib.Dec.{leb, eqb}
+use Prim.Native.Nat.{ℕ}
 use lib.ListN.{getD}
-use Rattle.characters_pace.specs.Characters.{allOf}
 use Rattle.rows_pace.specs.declared.Setting.{Setting}
 use Rattle.rows_pace.specs.declared.Setting.the-variants.{Overvoltage, Discharge}
 use Rattle.rows_pace.specs.declared.Row.{Row}
@@ -66,17 +64,3 @@ delayOf (SlowDischarge alarm protect delay) = delay
 abbrev pub valuesOf : Setting → List ℕ → ℕ → Values
 valuesOf Overvoltage a delay = CellOvervoltage (getD a 0 0) (getD a 1 0) (getD a 2 0) delay
 valuesOf Discharge a delay = SlowDischarge (getD a 0 0) (getD a 1 0) delay
-
--- ---- what may be written
-
--- from low to high in steps
-abbrev pub inSteps : ℕ → ℕ → ℕ → ℕ → Bool
-inSteps low high step n = leb low n && (leb n high && eqb ((n - low) % step) 0)
-
-unfoldable pub allowed : Row → List ℕ → ℕ → Bool
-allowed row amounts delay =
-    allOf (inSteps (row .low) (row .high) (row .step)) amounts
-    && inSteps (row .«delay_low») (row .«delay_high») (row .«delay_step») delay
-
-abbrev pub allowedOf : Values → Bool
-allowedOf v = allowed (rowOf (settingOf v)) (amountsOf v) (delayOf v)

@@ -22,8 +22,9 @@ use Rattle.rows_pace.specs.declared.Setting.the-variants.{Overvoltage, Discharg
 use Rattle.rows_pace.specs.declared.Row.{Row}
 use Rattle.rows_pace.specs.declared.Values.{Values}
 use Rattle.settings_pace.specs.declared.Found.the-variants.{Set, Refused}
-use Rattle.rows_pace.specs.Rows.{rowOf, settingOf, amountsOf, delayOf, valuesOf, inSteps, allowed, allowedOf}
-use Rattle.rows_pace.specs.Info.{pairsOf, payload, infoOf}
+use Rattle.rows_pace.specs.Rows.{rowOf, settingOf, amountsOf, delayOf, valuesOf}
+use Rattle.writes_pace.specs.Allowed.{inSteps, allowed, allowedOf}
+use Rattle.writes_pace.specs.Info.{pairsOf, payload, infoOf}
 use Rattle.settings_pace.specs.Reading.{shaped, wordsIn, delayIn, requestOf}
 use Rattle.rows_pace.proofs.Rows.{few, amounts-count, values-again, setting-again, delay-again, amounts-again}
 

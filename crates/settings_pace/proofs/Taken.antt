@@ -15,7 +15,8 @@ use Rattle.rows_pace.specs.declared.Setting.{Setting}
 use Rattle.rows_pace.specs.declared.Row.{Row}
 use Rattle.rows_pace.specs.declared.Values.{Values}
 use Rattle.settings_pace.specs.declared.Found.the-variants.{Set, Refused}
-use Rattle.rows_pace.specs.Rows.{rowOf, valuesOf, allowedOf}
+use Rattle.rows_pace.specs.Rows.{rowOf, valuesOf}
+use Rattle.writes_pace.specs.Allowed.{allowedOf}
 use Rattle.settings_pace.specs.Reading.{shaped, wordsIn, delayIn, amountOf, isAmount, amountIn, replyOf, requestOf}
 use Rattle.rows_pace.proofs.Rows.{few, values-front}
 

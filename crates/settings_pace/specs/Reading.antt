@@ -12,7 +12,8 @@ use Rattle.refusals.specs.Refused.{refusedWith, shape, range}
 use Rattle.characters_pace.specs.Characters.{allOf, wordsAt}
 use Rattle.rows_pace.specs.declared.Setting.{Setting}
 use Rattle.rows_pace.specs.declared.Row.{Row}
-use Rattle.rows_pace.specs.Rows.{rowOf, valuesOf, allowedOf}
+use Rattle.rows_pace.specs.Rows.{rowOf, valuesOf}
+use Rattle.writes_pace.specs.Allowed.{allowedOf}
 use Rattle.settings_pace.specs.declared.Amount.{Amount}
 use Rattle.settings_pace.specs.declared.Amount.the-variants.{Is, Positive}
 use Rattle.settings_pace.specs.declared.Found.{Found}

@@ -13,10 +13,10 @@ use Rattle.frames_tongzhu.specs.Writing.{frameBytes}
 use Rattle.requests_tongzhu.specs.Requests.{wireOf}
 use Rattle.characters_pace.specs.Characters.{allOf, halves}
 use Rattle.rows_pace.specs.Rows.{rowOf}
-use Rattle.rows_pace.specs.Info.{payload}
+use Rattle.writes_pace.specs.Info.{payload}
 use Rattle.settings_pace.specs.Reading.{shaped, amountOf, replyOf}
 use Rattle.analog_pace.specs.Analog.{tenthsOf}
-use Rattle.old58.specs.Record.{twoAt, currentOf, currentAt}
+use Rattle.parts_old58.specs.Parts.{twoAt, currentOf, currentAt}
 use Rattle.restore_order.specs.Slots.{writes}
 use Rattle.worked.specs.Examples.{alike, every, worked}
 

@@ -17,14 +17,14 @@ use Rattle.requests_tongzhu.specs.Requests.{Wire, bytes, none, wireOf}
 use Rattle.characters_pace.specs.Characters.{hexed}
 use Rattle.rows_pace.specs.declared.Setting.the-variants.{Discharge}
 use Rattle.rows_pace.specs.Rows.{amountsOf}
-use Rattle.rows_pace.specs.Info.{infoOf}
+use Rattle.writes_pace.specs.Info.{infoOf}
 use Rattle.settings_pace.specs.declared.Found.{Found}
 use Rattle.settings_pace.specs.declared.Found.the-variants.{Set, Refused}
 use Rattle.settings_pace.specs.Reading.{replyOf}
 use Rattle.analog_pace.specs.Analog.{tenthsOf}
-use Rattle.old58.specs.declared.Current.{Current}
-use Rattle.old58.specs.declared.Current.the-variants.{Milliamps, Missing}
-use Rattle.old58.specs.Record.{currentAt}
+use Rattle.parts_old58.specs.declared.Current.{Current}
+use Rattle.parts_old58.specs.declared.Current.the-variants.{Milliamps, Missing}
+use Rattle.parts_old58.specs.Parts.{currentAt}
 use Rattle.records_pathfinder.specs.Words as words
 use Rattle.restore_order.specs.Slots.{eqZ, slots, writes}
 

@@ -1,47 +1,39 @@
 -- `exports_old58::setup_numbers` meets its contract, number by number.
 -- Assumes nothing.
 use mathlib.Core.Path.{refl}
-use Rattle.exports_rows.proofs.Same.{same}
+use Rattle.exports_rows.proofs.Same.{cast}
+use native.Mathlib.Omega.{arith}
 use borrow.Author.Needs.{needs}
 use Rattle.exports_old58.proofs.setup_numbers.Statement.{statement}
 use Rattle.exports_old58.proofs.setup_numbers.Tie as tie
 
-byte-requires : tie.Need-byte-requires
-byte-requires c κs = search needs
+cast-t2 : tie.Need-cast-t2
+cast-t2 c = search needs
 
-byte-requires-2 : tie.Need-byte-requires-2
-byte-requires-2 c κs = search needs
+cast-t3 : tie.Need-cast-t3
+cast-t3 c = search needs
 
-half-requires : tie.Need-half-requires
-half-requires c κs = search needs
+cast-t4 : tie.Need-cast-t4
+cast-t4 c = search needs
 
-half-requires-2 : tie.Need-half-requires-2
-half-requires-2 c κs = search needs
+cast-t5 : tie.Need-cast-t5
+cast-t5 c = search needs
 
-half-requires-3 : tie.Need-half-requires-3
-half-requires-3 c κs = search needs
+cast-t6 : tie.Need-cast-t6
+cast-t6 c = search needs
 
-half-requires-4 : tie.Need-half-requires-4
-half-requires-4 c κs = search needs
+cast-t7 : tie.Need-cast-t7
+cast-t7 c = search needs
 
 returns : tie.Need-returns
 returns c =
-    same (c .before .before .before .before .before .byte .ok) (c .before .before .before .before .before .byte .ensures)
-    (same (c .before .before .before .before .byte2 .ok) (c .before .before .before .before .byte2 .ensures)
-    (same (c .before .before .before .half .ok) (c .before .before .before .half .ensures)
-    (same (c .before .before .half2 .ok) (c .before .before .half2 .ensures)
-    (same (c .before .half3 .ok) (c .before .half3 .ensures)
-    (same (c .half4 .ok) (c .half4 .ensures)
+    cast (omega arith)
+    (cast (omega arith)
+    (cast (omega arith)
+    (cast (omega arith)
+    (cast (omega arith)
+    (cast (omega arith)
     refl)))))
 
 pub setup-numbers-spec : {M : Type 1} → statement M
-setup-numbers-spec =
-    tie.close
-    (tie.spec
-    byte-requires
-    byte-requires-2
-    half-requires
-    half-requires-2
-    half-requires-3
-    half-requires-4
-    returns)
+setup-numbers-spec = tie.close (tie.spec cast-t2 cast-t3 cast-t4 cast-t5 cast-t6 cast-t7 returns)

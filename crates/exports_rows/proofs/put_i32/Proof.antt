@@ -1,36 +1,34 @@
 -- `exports_rows::put_i32` meets its contract. The loop's invariant: the first i values stand from the place `at` on, all else as it was.
 -- Assumes nothing.
-use Prim.Native.Nat.{_+_, _-_, _≤_}
-use mathlib.Core.Path.{_≡_, refl}
-use native.Mathlib.Omega.{arith}
+use Prim.Native.Nat.{_-_}
+use mathlib.Core.Path.{refl}
 use lib.IntN.{pos}
-use lib.ListN.{length, length-set}
-use lib.Seq.{paste, paste-zero}
+use lib.ListN.{length}
 use mir.Syntax.{w32}
 use mir.ValLaws.{toZ-ofZ}
-use Rattle.exports_rows.proofs.Placing.{one-placed, all-placed, none-placed}
+use Rattle.exports_rows.proofs.Placing.{Standing, none-stands, one-more, all-stand, none-placed}
+use native.Mathlib.Omega.{arith}
 use borrow.Author.Needs.{needs}
 use Rattle.exports_rows.proofs.put_i32.Statement.{statement}
 use Rattle.exports_rows.proofs.put_i32.Tie as tie
 
 abbrev Inv-loop : tie.InvT-loop
-Inv-loop numbers at row₀ i₀ row i =
-    (i ≤ length numbers) × (row ≡ paste row₀ at (numbers) i) × (length row ≡ length row₀) × (at + length numbers ≤ length row₀)
+Inv-loop numbers at row₀ i₀ row i = Standing (length numbers) at numbers row₀ row i
 
 abbrev μ-loop : tie.MeasureT-loop
 μ-loop numbers at row₀ i₀ row i = length numbers - i
 
 returns : tie.Need-returns Inv-loop μ-loop
-returns c = let a = c .before .args in none-placed (a .numbers .now) (a .row .now) (a .at) (omega arith)
+returns c = let a = c .before .args in none-placed _ (a .at) (a .numbers .now) (a .row .now) refl (omega arith)
 
 sub-if2 : tie.Need-sub-if2 Inv-loop μ-loop
 sub-if2 c = search needs
 
 returns-2 : tie.Need-returns-2 Inv-loop μ-loop
-returns-2 c = let a = c .before .before .args in none-placed (a .numbers .now) (a .row .now) (a .at) (omega arith)
+returns-2 c = let a = c .before .before .args in none-placed _ (a .at) (a .numbers .now) (a .row .now) refl (omega arith)
 
 loop-holds : tie.Need-loop-holds Inv-loop μ-loop
-loop-holds c = let a = c .before .before .args in (omega arith, paste-zero (a .row .now) (a .at) (a .numbers .now), refl, omega arith)
+loop-holds c = let a = c .before .before .args in none-stands _ (a .at) (a .numbers .now) (a .row .now) refl (omega arith)
 
 mul-v : tie.Need-mul-v Inv-loop μ-loop
 mul-v c = search needs
@@ -56,12 +54,8 @@ loop-less c = search needs
 loop-again : tie.Need-loop-again Inv-loop μ-loop
 loop-again c =
     let l = c .before .before .loop in
-    let a = c .before .before .before .before .before .args in (
-      omega arith,
-      one-placed (a .numbers .now) (a .row .now) (a .at) (l .row) (l .i) _ (pos 0) (l .inv .1) (omega arith) (omega arith) (toZ-ofZ w32 _ (record { sfits = c .v .given })),
-      simp length-set (l .inv .2),
-      omega arith,
-    )
+    let a = c .before .before .before .before .before .args in
+    one-more _ (a .at) (a .numbers .now) (a .row .now) refl (l .row) (l .i) _ (pos 0) (l .inv) (omega arith) (toZ-ofZ w32 _ (record { sfits = c .v .given }))
 
 same-length : tie.Need-same-length Inv-loop μ-loop
 same-length c = search needs
@@ -70,7 +64,7 @@ returns-3 : tie.Need-returns-3 Inv-loop μ-loop
 returns-3 c =
     let l = c .before .loop in
     let a = c .before .before .before .before .args in
-    all-placed (a .numbers .now) (a .row .now) (a .at) (l .row) (l .i) (l .inv .1) (omega arith) (omega arith)
+    all-stand _ (a .at) (a .numbers .now) (a .row .now) refl (l .row) (l .i) (l .inv) (omega arith)
 
 pub put-i32-spec : {M : Type 1} → statement M
 put-i32-spec =

@@ -1,37 +1,34 @@
 -- `exports_rows::put_u16` meets its contract. The loop's invariant: the first i values stand from the place `at` on, all else as it was.
 -- Assumes nothing.
-use Prim.Native.Nat.{_+_, _-_, _≤_}
-use mathlib.Core.Path.{_≡_, refl, sym, _∙_}
+use Prim.Native.Nat.{_-_}
 use mathlib.Core.List.{map}
-use native.Mathlib.Omega.{arith}
 use lib.IntN.{pos}
-use lib.ListN.{length, length-set, length-map, List·getD-map}
-use lib.Seq.{paste, paste-zero}
+use lib.ListN.{length, length-map}
 use mir.Syntax.{w32}
-use mir.Val.{toZ, ofZ}
-use Rattle.exports_rows.proofs.Placing.{one-placed, all-placed, none-placed}
+use Rattle.exports_rows.proofs.Placing.{Standing, none-stands, one-more, all-stand, none-placed}
+use Rattle.exports_rows.proofs.Widening.{widened}
+use native.Mathlib.Omega.{arith}
 use borrow.Author.Needs.{needs}
 use Rattle.exports_rows.proofs.put_u16.Statement.{statement}
 use Rattle.exports_rows.proofs.put_u16.Tie as tie
 
 abbrev Inv-loop : tie.InvT-loop
-Inv-loop numbers at row₀ i₀ row i =
-    (i ≤ length numbers) × (row ≡ paste row₀ at (map pos numbers) i) × (length row ≡ length row₀) × (at + length numbers ≤ length row₀)
+Inv-loop numbers at row₀ i₀ row i = Standing (length numbers) at (map pos numbers) row₀ row i
 
 abbrev μ-loop : tie.MeasureT-loop
 μ-loop numbers at row₀ i₀ row i = length numbers - i
 
 returns : tie.Need-returns Inv-loop μ-loop
-returns c = let a = c .before .before .args in none-placed (map pos (a .numbers .now)) (a .row .now) (a .at) (omega (arith, length-map (a .numbers .now) pos))
+returns c = let a = c .before .args in none-placed _ (a .at) (map pos (a .numbers .now)) (a .row .now) (length-map (a .numbers .now) pos) (omega arith)
 
 sub-if2 : tie.Need-sub-if2 Inv-loop μ-loop
 sub-if2 c = search needs
 
 returns-2 : tie.Need-returns-2 Inv-loop μ-loop
-returns-2 c = let a = c .before .before .before .args in none-placed (map pos (a .numbers .now)) (a .row .now) (a .at) (omega (arith, length-map (a .numbers .now) pos))
+returns-2 c = let a = c .before .before .args in none-placed _ (a .at) (map pos (a .numbers .now)) (a .row .now) (length-map (a .numbers .now) pos) (omega arith)
 
 loop-holds : tie.Need-loop-holds Inv-loop μ-loop
-loop-holds c = let a = c .before .before .before .args in (omega arith, paste-zero (a .row .now) (a .at) (map pos (a .numbers .now)), refl, omega arith)
+loop-holds c = let a = c .before .before .args in none-stands _ (a .at) (map pos (a .numbers .now)) (a .row .now) (length-map (a .numbers .now) pos) (omega arith)
 
 mul-half : tie.Need-mul-half Inv-loop μ-loop
 mul-half c = search needs
@@ -39,17 +36,17 @@ mul-half c = search needs
 shared-slice-read-half : tie.Need-shared-slice-read-half Inv-loop μ-loop
 shared-slice-read-half c = search needs
 
-half-requires : tie.Need-half-requires Inv-loop μ-loop
-half-requires c κs = search needs
+cast-half : tie.Need-cast-half Inv-loop μ-loop
+cast-half c = record { sfits = omega (arith, c .shared-slice-known .given (c .before .before .loop .i)) }
 
-add-t14 : tie.Need-add-t14 Inv-loop μ-loop
-add-t14 c = search needs
+add-half : tie.Need-add-half Inv-loop μ-loop
+add-half c = search needs
 
-mul-t15 : tie.Need-mul-t15 Inv-loop μ-loop
-mul-t15 c = search needs
+mul-half-2 : tie.Need-mul-half-2 Inv-loop μ-loop
+mul-half-2 c = search needs
 
-slice-set-from-row : tie.Need-slice-set-from-row Inv-loop μ-loop
-slice-set-from-row c = search needs
+slice-set-from-half : tie.Need-slice-set-from-half Inv-loop μ-loop
+slice-set-from-half c = search needs
 
 add-i : tie.Need-add-i Inv-loop μ-loop
 add-i c = search needs
@@ -59,14 +56,9 @@ loop-less c = search needs
 
 loop-again : tie.Need-loop-again Inv-loop μ-loop
 loop-again c =
-    let l = c .before .before .before .loop in
-    let a = c .before .before .before .before .before .before .before .args in
-    let held : toZ w32 (ofZ w32 (c .half .result)) ≡ c .half .result = search needs in (
-      omega arith,
-      one-placed (map pos (a .numbers .now)) (a .row .now) (a .at) (l .row) (l .i) _ (pos 0) (l .inv .1) (omega arith) (omega (arith, length-map (a .numbers .now) pos)) (held ∙ c .half .ensures ∙ sym (List·getD-map pos (a .numbers .now) (l .i) 0)),
-      simp length-set (l .inv .2),
-      omega arith,
-    )
+    let l = c .before .before .loop in
+    let a = c .before .before .before .before .before .args in
+    one-more _ (a .at) (map pos (a .numbers .now)) (a .row .now) (length-map (a .numbers .now) pos) (l .row) (l .i) _ (pos 0) (l .inv) (omega arith) (widened w32 (a .numbers .now) (l .i) (omega (arith, c .shared-slice-known .given (l .i))))
 
 same-length : tie.Need-same-length Inv-loop μ-loop
 same-length c = search needs
@@ -74,8 +66,8 @@ same-length c = search needs
 returns-3 : tie.Need-returns-3 Inv-loop μ-loop
 returns-3 c =
     let l = c .before .loop in
-    let a = c .before .before .before .before .before .args in
-    all-placed (map pos (a .numbers .now)) (a .row .now) (a .at) (l .row) (l .i) (l .inv .1) (omega (arith, length-map (a .numbers .now) pos)) (omega (arith, length-map (a .numbers .now) pos))
+    let a = c .before .before .before .before .args in
+    all-stand _ (a .at) (map pos (a .numbers .now)) (a .row .now) (length-map (a .numbers .now) pos) (l .row) (l .i) (l .inv) (omega arith)
 
 pub put-u16-spec : {M : Type 1} → statement M
 put-u16-spec =
@@ -89,10 +81,10 @@ put-u16-spec =
     loop-holds
     mul-half
     shared-slice-read-half
-    half-requires
-    add-t14
-    mul-t15
-    slice-set-from-row
+    cast-half
+    add-half
+    mul-half-2
+    slice-set-from-half
     add-i
     loop-less
     loop-again

@@ -1,52 +1,49 @@
 -- `exports_rows::put_u8` meets its contract. The loop's invariant: the first i values stand from the place `at` on, all else as it was.
 -- Assumes nothing.
-use Prim.Native.Nat.{_+_, _-_, _≤_}
-use mathlib.Core.Path.{_≡_, refl, sym, _∙_}
+use Prim.Native.Nat.{_-_}
 use mathlib.Core.List.{map}
-use native.Mathlib.Omega.{arith}
 use lib.IntN.{pos}
-use lib.ListN.{length, length-set, length-map, List·getD-map}
-use lib.Seq.{paste, paste-zero}
+use lib.ListN.{length, length-map}
 use mir.Syntax.{w32}
-use mir.Val.{toZ, ofZ}
-use Rattle.exports_rows.proofs.Placing.{one-placed, all-placed, none-placed}
+use Rattle.exports_rows.proofs.Placing.{Standing, none-stands, one-more, all-stand, none-placed}
+use Rattle.exports_rows.proofs.Widening.{widened}
+use native.Mathlib.Omega.{arith}
 use borrow.Author.Needs.{needs}
 use Rattle.exports_rows.proofs.put_u8.Statement.{statement}
 use Rattle.exports_rows.proofs.put_u8.Tie as tie
 
 abbrev Inv-loop : tie.InvT-loop
-Inv-loop numbers at row₀ i₀ row i =
-    (i ≤ length numbers) × (row ≡ paste row₀ at (map pos numbers) i) × (length row ≡ length row₀) × (at + length numbers ≤ length row₀)
+Inv-loop numbers at row₀ i₀ row i = Standing (length numbers) at (map pos numbers) row₀ row i
 
 abbrev μ-loop : tie.MeasureT-loop
 μ-loop numbers at row₀ i₀ row i = length numbers - i
 
 returns : tie.Need-returns Inv-loop μ-loop
-returns c = let a = c .before .before .args in none-placed (map pos (a .numbers .now)) (a .row .now) (a .at) (omega (arith, length-map (a .numbers .now) pos))
+returns c = let a = c .before .args in none-placed _ (a .at) (map pos (a .numbers .now)) (a .row .now) (length-map (a .numbers .now) pos) (omega arith)
 
 sub-if2 : tie.Need-sub-if2 Inv-loop μ-loop
 sub-if2 c = search needs
 
 returns-2 : tie.Need-returns-2 Inv-loop μ-loop
-returns-2 c = let a = c .before .before .before .args in none-placed (map pos (a .numbers .now)) (a .row .now) (a .at) (omega (arith, length-map (a .numbers .now) pos))
+returns-2 c = let a = c .before .before .args in none-placed _ (a .at) (map pos (a .numbers .now)) (a .row .now) (length-map (a .numbers .now) pos) (omega arith)
 
 loop-holds : tie.Need-loop-holds Inv-loop μ-loop
-loop-holds c = let a = c .before .before .before .args in (omega arith, paste-zero (a .row .now) (a .at) (map pos (a .numbers .now)), refl, omega arith)
+loop-holds c = let a = c .before .before .args in none-stands _ (a .at) (map pos (a .numbers .now)) (a .row .now) (length-map (a .numbers .now) pos) (omega arith)
 
 shared-slice-read-byte : tie.Need-shared-slice-read-byte Inv-loop μ-loop
 shared-slice-read-byte c = search needs
 
-byte-requires : tie.Need-byte-requires Inv-loop μ-loop
-byte-requires c κs = search needs
+cast-byte : tie.Need-cast-byte Inv-loop μ-loop
+cast-byte c = record { sfits = omega (arith, c .shared-slice-known .given (c .before .before .loop .i)) }
 
-add-t9 : tie.Need-add-t9 Inv-loop μ-loop
-add-t9 c = search needs
+add-byte : tie.Need-add-byte Inv-loop μ-loop
+add-byte c = search needs
 
-mul-t14 : tie.Need-mul-t14 Inv-loop μ-loop
-mul-t14 c = search needs
+mul-byte : tie.Need-mul-byte Inv-loop μ-loop
+mul-byte c = search needs
 
-slice-set-from-row : tie.Need-slice-set-from-row Inv-loop μ-loop
-slice-set-from-row c = search needs
+slice-set-from-byte : tie.Need-slice-set-from-byte Inv-loop μ-loop
+slice-set-from-byte c = search needs
 
 add-i : tie.Need-add-i Inv-loop μ-loop
 add-i c = search needs
@@ -56,14 +53,9 @@ loop-less c = search needs
 
 loop-again : tie.Need-loop-again Inv-loop μ-loop
 loop-again c =
-    let l = c .before .before .before .loop in
-    let a = c .before .before .before .before .before .before .before .args in
-    let held : toZ w32 (ofZ w32 (c .byte .result)) ≡ c .byte .result = search needs in (
-      omega arith,
-      one-placed (map pos (a .numbers .now)) (a .row .now) (a .at) (l .row) (l .i) _ (pos 0) (l .inv .1) (omega arith) (omega (arith, length-map (a .numbers .now) pos)) (held ∙ c .byte .ensures ∙ sym (List·getD-map pos (a .numbers .now) (l .i) 0)),
-      simp length-set (l .inv .2),
-      omega arith,
-    )
+    let l = c .before .before .loop in
+    let a = c .before .before .before .before .before .args in
+    one-more _ (a .at) (map pos (a .numbers .now)) (a .row .now) (length-map (a .numbers .now) pos) (l .row) (l .i) _ (pos 0) (l .inv) (omega arith) (widened w32 (a .numbers .now) (l .i) (omega (arith, c .shared-slice-known .given (l .i))))
 
 same-length : tie.Need-same-length Inv-loop μ-loop
 same-length c = search needs
@@ -71,8 +63,8 @@ same-length c = search needs
 returns-3 : tie.Need-returns-3 Inv-loop μ-loop
 returns-3 c =
     let l = c .before .loop in
-    let a = c .before .before .before .before .before .args in
-    all-placed (map pos (a .numbers .now)) (a .row .now) (a .at) (l .row) (l .i) (l .inv .1) (omega (arith, length-map (a .numbers .now) pos)) (omega (arith, length-map (a .numbers .now) pos))
+    let a = c .before .before .before .before .args in
+    all-stand _ (a .at) (map pos (a .numbers .now)) (a .row .now) (length-map (a .numbers .now) pos) (l .row) (l .i) (l .inv) (omega arith)
 
 pub put-u8-spec : {M : Type 1} → statement M
 put-u8-spec =
@@ -85,10 +77,10 @@ put-u8-spec =
     returns-2
     loop-holds
     shared-slice-read-byte
-    byte-requires
-    add-t9
-    mul-t14
-    slice-set-from-row
+    cast-byte
+    add-byte
+    mul-byte
+    slice-set-from-byte
     add-i
     loop-less
     loop-again

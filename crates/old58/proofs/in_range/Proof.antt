@@ -2,7 +2,7 @@
 -- Assumes nothing.
 use mathlib.Core.Path.{_≡_}
 use mathlib.Core.Bool.{true}
-use Rattle.old58.specs.Record.{byteAt}
+use Rattle.parts_old58.specs.Parts.{byteAt}
 use Rattle.old58.specs.Read.{signKnown}
 use mathlib.Core.Path.{sym, _∙_}
 use borrow.Author.Tests.{not-true, not-false}
