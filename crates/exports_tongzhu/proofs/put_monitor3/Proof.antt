@@ -1,11 +1,13 @@
 -- `exports_tongzhu::put_monitor3` meets its contract: 11 where the row is too short, else the numbers and the lists, placed one after the other.
 -- Assumes nothing.
-use mathlib.Core.Path.{ap, _∙_}
+use mathlib.Core.Path.{refl, sym, ap, _∙_}
 use Rattle.exports_rows.specs.Told.{placed}
 use Rattle.exports_rows.proofs.Placing.{total, parts-told, parts-untold}
 use Rattle.monitor3_tongzhu.specs.Layout.{listsAt}
-use Rattle.exports_tongzhu.specs.Replies.{partsOf, sizes, listed}
-use Rattle.exports_tongzhu.proofs.Rows.{sized}
+use Rattle.flat_tongzhu.specs.Numbers.{monitor3Numbers}
+use Rattle.lists_tongzhu.specs.Lists.{placedLists}
+use Rattle.lists_tongzhu.proofs.Listed.{lists-sized, listed-all}
+use Rattle.exports_tongzhu.specs.Replies.{partsOf, sizes}
 use borrow.Author.Needs.{needs}
 use Rattle.exports_tongzhu.proofs.put_monitor3.Statement.{statement}
 use Rattle.exports_tongzhu.proofs.put_monitor3.Tie as tie
@@ -17,7 +19,7 @@ returns : tie.Need-returns
 unfolding total
 returns c =
     let a = c .before .before .args in
-    parts-untold 2 (partsOf (a .m) (listsAt (a .p .now) 0)) sizes (sized (a .m) (a .p .now)) (a .row .now) (search needs)
+    parts-untold 2 (partsOf (a .m) (listsAt (a .p .now) 0)) sizes (refl, lists-sized (a .p .now)) (a .row .now) (search needs)
 
 monitor3-numbers-requires : tie.Need-monitor3-numbers-requires
 monitor3-numbers-requires c κs = search needs
@@ -41,10 +43,10 @@ returns-2 : tie.Need-returns-2
 unfolding total
 returns-2 c =
     let a = c .before .before .before .before .before .before .before .before .before .before .before .args in
-    let told = parts-told 2 (partsOf (a .m) (listsAt (a .p .now) 0)) sizes (sized (a .m) (a .p .now)) (a .row .now) (search needs) in (
+    let told = parts-told 2 (partsOf (a .m) (listsAt (a .p .now) 0)) sizes (refl, lists-sized (a .p .now)) (a .row .now) (search needs) in (
       c .coded .ensures ∙ told .0,
-      c .before .before .put-lists .ensures
-          ∙ ap (listed (listsAt (a .p .now) 0)) (c .before .before .before .before .before .put-i32 .ensures ∙ ap (λ ns. placed 0 ns (a .row .now)) (c .before .before .before .before .before .before .before .before .monitor3-numbers .ensures))
+      c .before .before .put-lists .ensures ∙ sym (listed-all (listsAt (a .p .now) 0) _ (search needs))
+          ∙ ap (placedLists (listsAt (a .p .now) 0)) (c .before .before .before .before .before .put-i32 .ensures ∙ ap (λ ns. placed 0 ns (a .row .now)) (c .before .before .before .before .before .before .before .before .monitor3-numbers .ensures))
           ∙ told .1,
     )
 

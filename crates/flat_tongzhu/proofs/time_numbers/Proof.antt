@@ -1,0 +1,38 @@
+-- `flat_tongzhu::time_numbers` meets its contract, number by number: each fits by what is known of the record.
+-- Assumes nothing.
+use mathlib.Core.Path.{refl}
+use Rattle.widths.proofs.Widening.{fits, then}
+use Rattle.flat_tongzhu.proofs.time_numbers.Statement.{statement}
+use Rattle.flat_tongzhu.proofs.time_numbers.Tie as tie
+
+cast-t2 : tie.Need-cast-t2
+cast-t2 c = fits tt (c .struct-known .given .0)
+
+cast-t3 : tie.Need-cast-t3
+cast-t3 c = fits tt (c .struct-known2 .given .1 .0)
+
+cast-t4 : tie.Need-cast-t4
+cast-t4 c = fits tt (c .struct-known3 .given .1 .1 .0)
+
+cast-t5 : tie.Need-cast-t5
+cast-t5 c = fits tt (c .struct-known4 .given .1 .1 .1 .0)
+
+cast-t6 : tie.Need-cast-t6
+cast-t6 c = fits tt (c .struct-known5 .given .1 .1 .1 .1 .0)
+
+cast-t7 : tie.Need-cast-t7
+cast-t7 c = fits tt (c .struct-known6 .given .1 .1 .1 .1 .1 .0)
+
+returns : tie.Need-returns
+returns c =
+    let k = c .struct-known6 .given in
+    then tt (k .0)
+    (then tt (k .1 .0)
+    (then tt (k .1 .1 .0)
+    (then tt (k .1 .1 .1 .0)
+    (then tt (k .1 .1 .1 .1 .0)
+    (then tt (k .1 .1 .1 .1 .1 .0)
+    refl)))))
+
+pub time-numbers-spec : {M : Type 1} → statement M
+time-numbers-spec = tie.close (tie.spec cast-t2 cast-t3 cast-t4 cast-t5 cast-t6 cast-t7 returns)
