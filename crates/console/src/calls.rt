@@ -22,14 +22,14 @@ use exports_pathfinder::tracksaffron_pf_row;
 use exports_requests_pathfinder::tracksaffron_pf_ask;
 use exports_requests_pathfinder::tracksaffron_pf_parse;
 use exports_requests_pathfinder::tracksaffron_pf_write;
+use exports_requests_tongzhu::tracksaffron_tz_ask;
+use exports_requests_tongzhu::tracksaffron_tz_parse;
+use exports_requests_tongzhu::tracksaffron_tz_set_time;
 use exports_restore::tracksaffron_restore_left;
 use exports_restore::tracksaffron_restore_next;
 use exports_restore::tracksaffron_restore_open;
 use exports_restore::tracksaffron_restore_reply;
-use exports_tongzhu::tracksaffron_tz_ask;
-use exports_tongzhu::tracksaffron_tz_parse;
 use exports_tongzhu::tracksaffron_tz_read;
-use exports_tongzhu::tracksaffron_tz_set_time;
 
 // The call with these parameters, on the bytes that the line gave.
 pub fn make(

@@ -1,13 +1,11 @@
-// Tongzhu for other languages (`rt staticlib exports_tongzhu`): numbers and slices only, each call safe with any input.
+// Tongzhu's replies for other languages (`rt staticlib exports_tongzhu`): numbers and slices only, each call safe with any input.
 // `specs/Replies.antt` says which number an answer goes out as, and at which place of the row each of its values stands.
 use exports_rows::coded;
 use exports_rows::put_i32;
 use exports_rows::put_numbers;
-use exports_rows::written_number;
 use flat_tongzhu::monitor2_numbers;
 use flat_tongzhu::monitor3_numbers;
 use flat_tongzhu::status_numbers;
-use flat_tongzhu::time_numbers;
 use frames_tongzhu::Frame;
 use frames_tongzhu::read_frame;
 use lists_tongzhu::put_lists;
@@ -18,11 +16,6 @@ use monitor3_tongzhu::read_numbers;
 use records_tongzhu::Answer;
 use records_tongzhu::Monitor2;
 use records_tongzhu::answer_to;
-use requests_tongzhu::Parsed;
-use requests_tongzhu::Request;
-use requests_tongzhu::Time;
-use requests_tongzhu::read_request;
-use requests_tongzhu::write_request;
 ghost use mathlib.Core.Path.{_≡_};
 ghost use mathlib.Core.List.{[], _∷_};
 ghost use lib.ListN.{length};
@@ -30,9 +23,6 @@ ghost use Rattle.monitor3_tongzhu.specs.Layout.{foundAt, listsAt};
 ghost use Rattle.records_tongzhu.specs.Replies.{answerIn, answerTo, replyOf};
 ghost use Rattle.flat_tongzhu.specs.Numbers.{statusNumbers, monitor2Numbers};
 ghost use Rattle.exports_rows.specs.Told.{codeOf, rowAfter, roomCode, over};
-ghost use Rattle.exports_rows.specs.Writing.{writtenCode};
-ghost use Rattle.requests_tongzhu.specs.Requests.{wireOf, writtenOf, roomAfter, parsedOf};
-ghost use Rattle.exports_tongzhu.specs.Requests.{timeOf, requestTold, toldRequest};
 ghost use Rattle.exports_tongzhu.specs.Replies.{allNumbers, toldIn, toldOf};
 
 // How many numbers a monitor 3 has: its own, then 32 cells, 4 bytes of balance, 16 sensors and 16 MOSFET sensors.
@@ -52,69 +42,6 @@ pub extern "C" fn tracksaffron_tz_read(asked: u8, s: &[u8], row: &mut [i32]) -> 
             start,
             len,
         } => tell_payload(asked, function, &s[start..start + len], row),
-    }
-}
-
-// Writes the request that asks for what a Tongzhu function reads.
-#[no_mangle]
-pub extern "C" fn tracksaffron_tz_ask(function: u8, out: &mut [u8]) -> u64
-    ensures answer { λ r. ⌜ r ≡ writtenCode (writtenOf (wireOf (Request.Ask function)) (length (now (out .entry)))) ⌝ }
-    ensures room { λ r. ⌜ now (out .exit) ≡ roomAfter (wireOf (Request.Ask function)) (now (out .entry)) ⌝ }
-{
-    written_number(write_request(Request::Ask(function), out))
-}
-
-// Writes the request that sets the time of a Tongzhu monitor; the year counts from 2000.
-#[no_mangle]
-pub extern "C" fn tracksaffron_tz_set_time(
-    year: u8,
-    month: u8,
-    day: u8,
-    hour: u8,
-    minute: u8,
-    second: u8,
-    out: &mut [u8],
-) -> u64
-    ensures answer { λ r. ⌜ r ≡ writtenCode (writtenOf (wireOf (Request.SetTime (timeOf year month day hour minute second))) (length (now (out .entry)))) ⌝ }
-    ensures room { λ r. ⌜ now (out .exit) ≡ roomAfter (wireOf (Request.SetTime (timeOf year month day hour minute second))) (now (out .entry)) ⌝ }
-{
-    let t = Time {
-        year,
-        month,
-        day,
-        hour,
-        minute,
-        second,
-    };
-    written_number(write_request(Request::SetTime(t), out))
-}
-
-// Reads a Tongzhu request; its values go to the front of the row.
-#[no_mangle]
-pub extern "C" fn tracksaffron_tz_parse(s: &[u8], row: &mut [i32]) -> u64
-    ensures answer { λ r. ⌜ r ≡ codeOf (toldRequest (parsedOf (now (s .entry)))) (length (now (row .entry))) 0 ⌝ }
-    ensures filled { λ r. ⌜ now (row .exit) ≡ rowAfter (toldRequest (parsedOf (now (s .entry)))) (now (row .entry)) ⌝ }
-{
-    let parsed = read_request(s);
-    match parsed {
-        Parsed::Is(q) => put_request(q, row),
-        Parsed::Refused(why) => why.number as u64,
-    }
-}
-
-fn put_request(q: Request, row: &mut [i32]) -> u64
-    ensures answer { λ n. ⌜ n ≡ codeOf (requestTold q) (length (now (row .entry))) 0 ⌝ }
-    ensures filled { λ n. ⌜ now (row .exit) ≡ rowAfter (requestTold q) (now (row .entry)) ⌝ }
-{
-    match q {
-        Request::Ask(function) => {
-            let asked = [function as i32];
-            put_numbers(1, &asked, row)
-        }
-        Request::SetTime(t) => {
-            let time = time_numbers(t);
-            put_numbers(2, &time, row)
-        }
     }
 }
 

@@ -1,10 +1,10 @@
--- `exports_tongzhu::tracksaffron_tz_set_time` meets its contract: what the request writer answers and leaves, its answer as a number.
+-- `exports_requests_tongzhu::tracksaffron_tz_ask` meets its contract: what the request writer answers and leaves, its answer as a number.
 -- Assumes nothing.
 use mathlib.Core.Path.{ap, _∙_}
 use Rattle.exports_rows.specs.Writing.{writtenCode}
 use borrow.Author.Needs.{needs}
-use Rattle.exports_tongzhu.proofs.tracksaffron_tz_set_time.Statement.{statement}
-use Rattle.exports_tongzhu.proofs.tracksaffron_tz_set_time.Tie as tie
+use Rattle.exports_requests_tongzhu.proofs.tracksaffron_tz_ask.Statement.{statement}
+use Rattle.exports_requests_tongzhu.proofs.tracksaffron_tz_ask.Tie as tie
 
 write-request-requires : tie.Need-write-request-requires
 write-request-requires c κs = search needs
@@ -18,6 +18,6 @@ same-length c = search needs
 returns : tie.Need-returns
 returns c = let e = c .before .before .before .write-request .ensures in (c .written-number .ensures ∙ ap writtenCode (e .0), e .1)
 
-pub tracksaffron-tz-set-time-spec : {M : Type 1} → statement M
-tracksaffron-tz-set-time-spec =
+pub tracksaffron-tz-ask-spec : {M : Type 1} → statement M
+tracksaffron-tz-ask-spec =
     tie.close (tie.spec write-request-requires written-number-requires same-length returns)
