@@ -20,9 +20,10 @@ use Rattle.requests_pathfinder.specs.Requests.{sentAs, roomAfter}
 use Rattle.restore_order.specs.Slots.{slots, at, writes, put}
 use Rattle.restore_order.specs.Machine as M
 use Rattle.restore_order.specs.Opening.{pathfinder, Opened, opened, unopened, opening}
-use Rattle.restore_rules.specs.declared.Verdict.the-variants.{Refused as NotAccepted}
+use Rattle.restore_opening.specs.declared.Verdict.the-variants.{Refused as NotAccepted}
 use Rattle.restore_rules.specs.declared.First.the-variants.{At, Nothing}
-use Rattle.restore_rules.specs.Rules.{verdictOf, firstOf}
+use Rattle.restore_rules.specs.Rules.{firstOf}
+use Rattle.restore_opening.specs.Verdicts.{verdictOf}
 use Rattle.restore_pathfinder.specs.declared.Phase.{Phase}
 use Rattle.restore_pathfinder.specs.declared.Phase.the-variants.{Ready, Waiting, Stopped}
 use Rattle.restore_pathfinder.specs.declared.Job.{Job}

@@ -1,4 +1,3 @@
-pub mod Judging
 pub mod Loops
 pub mod Numbers
 pub mod Slots

@@ -1,4 +1,4 @@
--- Signed numbers that were handed on: a variable holds a number's 32 bits, which read back as the number. And what a loop over a list leaves.
+-- Signed numbers that were handed on: a variable holds a number's 32 bits, which read back as the number.
 -- Assumes nothing.
 use mathlib.Core.Path.{_≡_, refl, sym, ap, _∙_}
 use mathlib.Core.Bool.{Bool, true, false}
@@ -18,7 +18,7 @@ pub from-bits : (z : ℤ) → mag z < 2147483648 → toZ w32 (ofZ w32 z) ≡ z
 from-bits z h = toZ-ofZ w32 z (record { sfits = h })
 
 -- the code's test of two numbers goes by their bits
-pub same-bits : (a b : ℤ) → SFits w32 a → SFits w32 b → eqb (ofZ w32 a) (ofZ w32 b) ≡ eqZ a b
+pub same-bits : (a b : ℤ) → mag a < 2147483648 → mag b < 2147483648 → eqb (ofZ w32 a) (ofZ w32 b) ≡ eqZ a b
 same-bits a b fa fb = go (eqZ a b) refl
   where
     go : (t : Bool) → eqZ a b ≡ t → eqb (ofZ w32 a) (ofZ w32 b) ≡ t
@@ -26,6 +26,6 @@ same-bits a b fa fb = go (eqZ a b) refl
     go false h =
         ne-eqb (ofZ w32 a) (ofZ w32 b)
         (λ q.
-        let e : a ≡ b = sym (toZ-ofZ w32 a fa) ∙ ap (toZ w32) q ∙ toZ-ofZ w32 b fb in
+        let e : a ≡ b = sym (from-bits a fa) ∙ ap (toZ w32) q ∙ from-bits b fb in
         let y : eqZ a b ≡ true = rw e (eqZ-refl b) in
         clash y h)

@@ -1,5 +1,5 @@
 -- The two tables are the slots, and what a walk along them finds: the first write of a list of slots is that of its first slot, if that has any,
--- and else that of the rest; the pairs stand right if the first slot does and the rest do. Assumes nothing.
+-- and else that of the rest. Assumes nothing.
 use mathlib.Core.Path.{_≡_, refl, sym, ap, _∙_}
 use mathlib.Core.Bool.{Bool, true, false, _&&_}
 use mathlib.Core.List.{List, [], _∷_}
@@ -8,17 +8,16 @@ use native.Mathlib.Omega.{arith}
 use native.Mathlib.Numerals.{add-one}
 use lib.IntN.{ℤ}
 use lib.Dec.{eqb, ltb}
-use lib.Signed.{ltZ}
 use lib.ListN.{length, getD, drop}
 use lib.Seq.{drop-cons}
 use borrow.Author.Tests.{eqb-true, ltb-true}
 use Rattle.laws.specs.Choice.{pick}
 use Rattle.laws.proofs.Ladders.{both}
-use Rattle.restore_order.specs.Slots.{Slot, alone, pair, slots, at, differs, onlyIf, upperFirst, inPair, writes, sides}
+use Rattle.restore_order.specs.Slots.{Slot, alone, pair, slots, differs, onlyIf, upperFirst, inPair, writes}
 use Rattle.restore_rules.specs.declared.First.{First}
 use Rattle.restore_rules.specs.declared.First.the-variants.{At, Nothing}
-use Rattle.restore_rules.specs.Tables.{uppers, lowers, slotOf, upright}
-use Rattle.restore_rules.specs.Rules.{firstOf}
+use Rattle.restore_rules.specs.Tables.{uppers, lowers, slotOf}
+use Rattle.restore_rules.specs.Rules.{firstOf, inTurn}
 
 -- ---- the tables
 
@@ -37,7 +36,7 @@ zipped-at (u ∷ us) (l ∷ ls) zero h e = refl
 zipped-at (u ∷ us) (l ∷ ls) (suc k) h e = zipped-at us ls k (omega arith) (omega arith)
 
 -- from place k on: the slot there, and the slots after it
-slots-from : (k : ℕ) → k < 11 → drop k slots ≡ slotOf (getD uppers k 0) (getD lowers k 0) ∷ drop (k + 1) slots
+pub slots-from : (k : ℕ) → k < 11 → drop k slots ≡ slotOf (getD uppers k 0) (getD lowers k 0) ∷ drop (k + 1) slots
 slots-from k h = rw add-one (drop-cons slots k (alone 0) h ∙ ap (λ (x : Slot). x ∷ drop (suc k) slots) (zipped-at uppers lowers k h refl))
 
 -- every entry is a setting
@@ -84,10 +83,10 @@ module _ (p w : List ℤ) where
   unfolding writes
   first-none = refl
 
-  -- of one slot: a setting by itself is a pair with itself
-  pub first-of-slot : (u l : ℕ) → firstOf (inPair (upperFirst p w u) (differs p w u) (differs p w l) u l []) ≡ firstOf (writes (slotOf u l ∷ []) p w)
+  -- of one slot: its members in turn, the upper one first or the lower one; a setting by itself is a pair with itself
+  pub first-of-slot : (u l : ℕ) (b : Bool) → upperFirst p w u ≡ b → firstOf (pick b (inTurn p w u l) (inTurn p w l u)) ≡ firstOf (writes (slotOf u l ∷ []) p w)
   unfolding writes
-  first-of-slot u l = go (eqb u l) refl
+  first-of-slot u l b e = rw (sym e) (go (eqb u l) refl)
     where
       twice : (b d : Bool) (n : ℕ) → firstOf (inPair b d d n n []) ≡ firstOf (onlyIf d n [])
       twice true true n = refl
@@ -99,21 +98,3 @@ module _ (p w : List ℤ) where
           ≡ firstOf (writes (pick b (alone u) (pair u l) ∷ []) p w)
       go true e = rw (sym (eqb-true u l e)) (twice (upperFirst p w u) (differs p w u) u)
       go false e = refl
-
--- ---- the pairs
-
-module _ (p : List ℤ) where
-  pub sides-from : (k : ℕ) → k < 11 → sides (drop k slots) p ≡ (upright p (getD uppers k 0) (getD lowers k 0) && sides (drop (k + 1) slots) p)
-  unfolding sides
-  sides-from k h = ap (λ (s : List Slot). sides s p) (slots-from k h) ∙ go (getD uppers k 0) (getD lowers k 0) (drop (k + 1) slots)
-    where
-      go : (u l : ℕ) (s : List Slot) → sides (slotOf u l ∷ s) p ≡ (upright p u l && sides s p)
-      go u l s = by (eqb u l)
-        where
-          by : (b : Bool) → sides (pick b (alone u) (pair u l) ∷ s) p ≡ (pick b true (ltZ (at p l) (at p u)) && sides s p)
-          by true = refl
-          by false = refl
-
-  pub sides-none : sides [] p ≡ true
-  unfolding sides
-  sides-none = refl

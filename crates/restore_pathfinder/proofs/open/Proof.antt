@@ -7,7 +7,7 @@ use lib.IntN.{ℤ}
 use borrow.Author.Needs.{needs}
 use Rattle.restore_order.specs.Machine.{jobOf, ready}
 use Rattle.restore_order.specs.Opening.{pathfinder, opened, shapely, opening}
-use Rattle.restore_rules.proofs.Judging.{lengths, is-opened}
+use Rattle.restore_opening.proofs.Judging.{lengths, is-opened}
 use Rattle.restore_pathfinder.specs.Calls.{openedAs}
 use Rattle.restore_pathfinder.proofs.Steps.{is-refused}
 use Rattle.restore_pathfinder.proofs.open.Statement.{statement}

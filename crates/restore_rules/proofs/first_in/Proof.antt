@@ -1,62 +1,62 @@
--- `first_in` meets its contract. The two tests and the order, each from its callee, make the slot's first write (`first-of-slot`).
+-- `first_in` meets its contract. The test of the upper member, its numbers read back from their bits (`from-bits`), settles the order (`first-of-slot`).
 -- Assumes nothing.
-use mathlib.Core.Path.{_≡_, ap₂, _∙_}
+use mathlib.Core.Path.{_≡_, sym, ap₂, _∙_}
+use mathlib.Core.Bool.{Bool, true, false}
 use lib.Signed.{ltZ}
 use borrow.Author.Needs.{needs}
-use Rattle.restore_order.specs.Slots.{at, differs, upperFirst}
+use Rattle.restore_order.specs.Slots.{at, upperFirst}
 use Rattle.restore_rules.proofs.Numbers.{from-bits}
 use Rattle.restore_rules.proofs.Slots.{first-of-slot}
 use Rattle.restore_rules.proofs.first_in.Statement.{statement}
 use Rattle.restore_rules.proofs.first_in.Tie as tie
 
-mul-less : tie.Need-mul-less
-mul-less c = search needs
+mul-upper-first : tie.Need-mul-upper-first
+mul-upper-first c = search needs
 
-element-copy-out-less : tie.Need-element-copy-out-less
-element-copy-out-less c = search needs
+element-copy-out-upper-first : tie.Need-element-copy-out-upper-first
+element-copy-out-upper-first c = search needs
 
-mul-less-2 : tie.Need-mul-less-2
-mul-less-2 c = search needs
+mul-upper-first-2 : tie.Need-mul-upper-first-2
+mul-upper-first-2 c = search needs
 
-element-copy-out-less-2 : tie.Need-element-copy-out-less-2
-element-copy-out-less-2 c = search needs
+element-copy-out-upper-first-2 : tie.Need-element-copy-out-upper-first-2
+element-copy-out-upper-first-2 c = search needs
 
-less-requires : tie.Need-less-requires
-less-requires c κs = search needs
+first-of-requires : tie.Need-first-of-requires
+first-of-requires c κs = search needs
 
-changed-requires : tie.Need-changed-requires
-changed-requires c κs = search needs
-
-changed-requires-2 : tie.Need-changed-requires-2
-changed-requires-2 c κs = search needs
-
-choose-requires : tie.Need-choose-requires
-choose-requires c κs = search needs
+first-of-requires-2 : tie.Need-first-of-requires-2
+first-of-requires-2 c κs = search needs
 
 returns : tie.Need-returns
 returns c =
-    let a = c .before .before .before .before .before .before .args in
+    let t = c .before .before in
+    let a = t .before .before .args in
     let p = a .present .now in
     let w = a .wanted .now in
-    let b : c .before .before .before .less .result ≡ upperFirst p w (a .upper) =
-    c .before .before .before .less .ensures
-    ∙ ap₂ ltZ
-    (from-bits (at p (a .upper)) (c .before .before .before .before .before .less-arg .given))
-    (from-bits (at w (a .upper)) (c .before .before .before .before .less-arg2 .given)) in
-    let u : c .before .before .changed .result ≡ differs p w (a .upper) = c .before .before .changed .ensures in
-    let l : c .before .changed2 .result ≡ differs p w (a .lower) = c .before .changed2 .ensures in
-    c .choose .ensures ∙ rw (b, u, l) (first-of-slot p w (a .upper) (a .lower))
+    let e : upperFirst p w (a .upper) ≡ true =
+    sym (ap₂ ltZ (from-bits (at p (a .upper)) (t .before .upper-first .given)) (from-bits (at w (a .upper)) (t .upper-first2 .given))) ∙ c .before .if1 .taken in
+    c .first-of .ensures ∙ first-of-slot p w (a .upper) (a .lower) true e
+
+returns-2 : tie.Need-returns-2
+returns-2 c =
+    let t = c .before .before in
+    let a = t .before .before .args in
+    let p = a .present .now in
+    let w = a .wanted .now in
+    let e : upperFirst p w (a .upper) ≡ false =
+    sym (ap₂ ltZ (from-bits (at p (a .upper)) (t .before .upper-first .given)) (from-bits (at w (a .upper)) (t .upper-first2 .given))) ∙ c .before .if1 .left in
+    c .first-of2 .ensures ∙ first-of-slot p w (a .upper) (a .lower) false e
 
 pub first-in-spec : {M : Type 1} → statement M
 first-in-spec =
     tie.close
     (tie.spec
-    mul-less
-    element-copy-out-less
-    mul-less-2
-    element-copy-out-less-2
-    less-requires
-    changed-requires
-    changed-requires-2
-    choose-requires
-    returns)
+    mul-upper-first
+    element-copy-out-upper-first
+    mul-upper-first-2
+    element-copy-out-upper-first-2
+    first-of-requires
+    first-of-requires-2
+    returns
+    returns-2)

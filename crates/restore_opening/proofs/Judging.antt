@@ -14,8 +14,8 @@ use Rattle.refusals.specs.Refused.{refusedWith, shape, range, wantedPair, prese
 use Rattle.restore_order.specs.Slots.{slots, at, sides}
 use Rattle.restore_order.specs.Machine.{Job, jobOf, ready}
 use Rattle.restore_order.specs.Opening.{pathfinder, every, opened, inOrder, shapely, ranged, opening}
-use Rattle.restore_rules.specs.declared.Verdict.the-variants.{Accepted, Refused}
-use Rattle.restore_rules.specs.Rules.{verdictOf}
+use Rattle.restore_opening.specs.declared.Verdict.the-variants.{Accepted, Refused}
+use Rattle.restore_opening.specs.Verdicts.{verdictOf}
 
 module _ (o w : List ℤ) where
   pub misshapen : shapely pathfinder o w ≡ false → Refused (refusedWith shape) ≡ verdictOf (opening pathfinder o w)

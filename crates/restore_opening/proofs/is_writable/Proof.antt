@@ -5,8 +5,8 @@ use mathlib.Core.Bool.{true}
 use mir.Syntax.{w32}
 use mir.ValLaws.{toZ-ofZ}
 use borrow.Author.Needs.{needs}
-use Rattle.restore_rules.proofs.is_writable.Statement.{statement}
-use Rattle.restore_rules.proofs.is_writable.Tie as tie
+use Rattle.restore_opening.proofs.is_writable.Statement.{statement}
+use Rattle.restore_opening.proofs.is_writable.Tie as tie
 
 in-range-requires : tie.Need-in-range-requires
 in-range-requires c κs = search needs

@@ -3,8 +3,8 @@
 use lib.ListN.{length}
 use borrow.Author.Tests.{eq-eqb, ne-eqb}
 use borrow.Author.Needs.{needs}
-use Rattle.restore_rules.proofs.is_shapely.Statement.{statement}
-use Rattle.restore_rules.proofs.is_shapely.Tie as tie
+use Rattle.restore_opening.proofs.is_shapely.Statement.{statement}
+use Rattle.restore_opening.proofs.is_shapely.Tie as tie
 
 returns : tie.Need-returns
 returns c = rw (ne-eqb (length (c .before .args .present .now)) 50 (c .if1 .taken))

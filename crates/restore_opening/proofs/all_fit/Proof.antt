@@ -8,11 +8,11 @@ use borrow.Author.Tests.{not-true, not-false}
 use borrow.Author.Needs.{needs}
 use Rattle.restore_order.specs.Slots.{at}
 use Rattle.restore_order.specs.Opening.{every}
-use Rattle.restore_rules.specs.Rules.{fits}
+use Rattle.restore_opening.specs.Verdicts.{fits}
 use Rattle.restore_rules.proofs.Numbers.{from-bits}
-use Rattle.restore_rules.proofs.Loops.{every-none, every-more, every-stops}
-use Rattle.restore_rules.proofs.all_fit.Statement.{statement}
-use Rattle.restore_rules.proofs.all_fit.Tie as tie
+use Rattle.restore_opening.proofs.Every.{every-none, every-more, every-stops}
+use Rattle.restore_opening.proofs.all_fit.Statement.{statement}
+use Rattle.restore_opening.proofs.all_fit.Tie as tie
 
 abbrev Inv-loop : tie.InvT-loop
 Inv-loop values wanted n₀ n = (n ≤ 15) × (every n (λ m. fits wanted m (at values m)) ≡ true)

@@ -3,8 +3,8 @@
 use mir.Syntax.{w32}
 use mir.ValLaws.{toZ-ofZ}
 use borrow.Author.Needs.{needs}
-use Rattle.restore_rules.proofs.is_fit.Statement.{statement}
-use Rattle.restore_rules.proofs.is_fit.Tie as tie
+use Rattle.restore_opening.proofs.is_fit.Statement.{statement}
+use Rattle.restore_opening.proofs.is_fit.Tie as tie
 
 is-writable-requires : tie.Need-is-writable-requires
 is-writable-requires c κs = search needs

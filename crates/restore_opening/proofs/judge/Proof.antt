@@ -7,9 +7,9 @@ use borrow.Author.Needs.{needs}
 use borrow.Author.Tests.{not-true, not-false}
 use Rattle.restore_order.specs.Slots.{slots, sides}
 use Rattle.restore_order.specs.Opening.{pathfinder, shapely, ranged}
-use Rattle.restore_rules.proofs.Judging.{misshapen, lengths, out-of-range, wanted-crossed, present-crossed, accepted}
-use Rattle.restore_rules.proofs.judge.Statement.{statement}
-use Rattle.restore_rules.proofs.judge.Tie as tie
+use Rattle.restore_opening.proofs.Judging.{misshapen, lengths, out-of-range, wanted-crossed, present-crossed, accepted}
+use Rattle.restore_opening.proofs.judge.Statement.{statement}
+use Rattle.restore_opening.proofs.judge.Tie as tie
 
 shapes : (c : tie.Else1) → shapely pathfinder (c .before .before .args .present .now) (c .before .before .args .wanted .now) ≡ true
 shapes c = sym (c .before .is-shapely .ensures) ∙ not-false (c .before .is-shapely .result) (c .if1 .left)

@@ -8,9 +8,10 @@ use lib.ListN.{drop}
 use borrow.Author.Needs.{needs}
 use borrow.Author.Tests.{not-true, not-false}
 use Rattle.restore_order.specs.Slots.{slots, sides}
-use Rattle.restore_rules.proofs.Slots.{members-below, sides-from, sides-none}
-use Rattle.restore_rules.proofs.are_upright.Statement.{statement}
-use Rattle.restore_rules.proofs.are_upright.Tie as tie
+use Rattle.restore_rules.proofs.Slots.{members-below}
+use Rattle.restore_opening.proofs.Pairs.{sides-from, sides-none}
+use Rattle.restore_opening.proofs.are_upright.Statement.{statement}
+use Rattle.restore_opening.proofs.are_upright.Tie as tie
 
 abbrev Inv-loop : tie.InvT-loop
 Inv-loop values k₀ k = (k ≤ 11) × (sides slots values ≡ sides (drop k slots) values)
