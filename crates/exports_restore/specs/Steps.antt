@@ -16,7 +16,7 @@ use Rattle.restore_pathfinder.specs.declared.Answer.{Answer}
 use Rattle.restore_pathfinder.specs.declared.Answer.the-variants as answer
 use Rattle.restore_pathfinder.specs.declared.Heard.{Heard}
 use Rattle.exports_rows.specs.Told.{codedAs}
-use Rattle.exports_restore.specs.Jobs.{jobBytes}
+use Rattle.restore_bytes.specs.Jobs.{jobAfter}
 
 -- ---- open: 1 opened
 
@@ -25,7 +25,7 @@ openingCode opening.Accepted = codedAs 1 0
 openingCode (opening.Refused why) = why .number
 
 abbrev pub openingJob : Opening → Job → List ℕ → List ℕ
-openingJob opening.Accepted j b = jobBytes j
+openingJob opening.Accepted j b = jobAfter j b
 openingJob (opening.Refused why) j b = b
 
 abbrev pub openedCode : Opened → ℕ
@@ -42,7 +42,7 @@ stepCode step.Done = codedAs 2 0
 stepCode (step.Refused why) = why .number
 
 abbrev pub stepJob : Step → Job → List ℕ → List ℕ
-stepJob (step.Frame n) j b = jobBytes j
+stepJob (step.Frame n) j b = jobAfter j b
 stepJob step.Done j b = b
 stepJob (step.Refused why) j b = b
 
@@ -63,7 +63,7 @@ answerCode (answer.Taken o) = outcomeCode o
 answerCode (answer.Refused why) = why .number
 
 abbrev pub answerJob : Answer → Job → List ℕ → List ℕ
-answerJob (answer.Taken o) j b = jobBytes j
+answerJob (answer.Taken o) j b = jobAfter j b
 answerJob (answer.Refused why) j b = b
 
 abbrev pub heardCode : Heard → ℕ

@@ -7,9 +7,6 @@ use borrow.Author.Needs.{needs}
 use Rattle.exports_restore.proofs.tracksaffron_restore_open.Statement.{statement}
 use Rattle.exports_restore.proofs.tracksaffron_restore_open.Tie as tie
 
-cast-result : tie.Need-cast-result
-cast-result c = search needs
-
 returns : tie.Need-returns
 returns c = simp (ne-eqb _ _ (c .if1 .taken)) (refl, refl)
 
@@ -31,4 +28,4 @@ returns-2 c =
 
 pub tracksaffron-restore-open-spec : {M : Type 1} → statement M
 tracksaffron-restore-open-spec =
-    tie.close (tie.spec cast-result returns open-requires opened-requires same-length returns-2)
+    tie.close (tie.spec returns open-requires opened-requires same-length returns-2)

@@ -1,7 +1,7 @@
 -- A restore's job in 262 bytes: the 50 words of its picture and the 15 wanted values, four bytes each with the low one first, then a byte for the
 -- phase (0 ready, 1 waiting, 2 stopped) and one for the register waited for, 0 in the other phases (docs/DECISIONS.md, C and Rust).
 -- Assumes nothing.
-use Prim.Native.Nat.{ℕ}
+use Prim.Native.Nat.{ℕ, _+_, _*_}
 use mathlib.Core.Bool.{Bool, _&&_}
 use mathlib.Core.List.{List, [], _∷_, _++_}
 use lib.Dec.{leb, eqb}
@@ -11,7 +11,7 @@ use Rattle.laws.specs.Choice.{pick}
 use Rattle.numbers.specs.declared.Order.the-variants.{LowFirst}
 use Rattle.numbers.specs.Bytes.{bytesOf}
 use Rattle.signs.specs.Signed.{bitsOf}
-use Rattle.records_pathfinder.specs.Words.{words}
+use Rattle.records_pathfinder.specs.Words.{wordOf, words}
 use Rattle.restore_pathfinder.specs.declared.Phase.{Phase}
 use Rattle.restore_pathfinder.specs.declared.Phase.the-variants.{Ready, Waiting, Stopped}
 use Rattle.restore_pathfinder.specs.declared.Job.{Job}
@@ -41,10 +41,18 @@ phaseBytes p = phaseByte p ∷ registerByte p ∷ []
 unfoldable pub jobBytes : Job → List ℕ
 jobBytes j = wordBytes (j .present) ++ wordBytes (j .wanted) ++ phaseBytes (j .phase)
 
--- ---- read
+-- words from a place on, all else as it was
+abbrev pub wordsPut : ℕ → List ℤ → List ℕ → List ℕ
+wordsPut from vs b = take from b ++ wordBytes vs ++ drop (from + 4 * length vs) b
 
 abbrev pub sized : List ℕ → Bool
 sized b = eqb (length b) 262
+
+-- a job put into bytes; where they are not so many, they are as they were
+unfoldable pub jobAfter : Job → List ℕ → List ℕ
+jobAfter j b = pick (sized b) (jobBytes j) b
+
+-- ---- read
 
 -- so many bytes, and one of the three phases
 unfoldable pub isJob : List ℕ → Bool
@@ -53,10 +61,10 @@ isJob b = sized b && leb (getD b 260 0) 2
 unfoldable pub phaseIn : ℕ → ℕ → Phase
 phaseIn p r = pick (eqb p 0) Ready (pick (eqb p 1) (Waiting r) Stopped)
 
+-- the word in the four bytes from a place on
+abbrev pub wordIn : List ℕ → ℕ → ℤ
+wordIn b i = wordOf (getD b i 0) (getD b (i + 1) 0) (getD b (i + 2) 0) (getD b (i + 3) 0)
+
+-- the job in the bytes; those past their end are taken for 0
 unfoldable pub jobOf : List ℕ → Job
-jobOf b =
-    record {
-      present = words 50 (take 200 b);
-      wanted = words 15 (take 60 (drop 200 b));
-      phase = phaseIn (getD b 260 0) (getD b 261 0);
-    }
+jobOf b = record { present = words 50 b; wanted = words 15 (drop 200 b); phase = phaseIn (getD b 260 0) (getD b 261 0) }

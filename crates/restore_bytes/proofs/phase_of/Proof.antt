@@ -1,9 +1,9 @@
--- `exports_restore::phase_of` meets its contract: by the two tests.
+-- `restore_bytes::phase_of` meets its contract: by the two tests.
 -- Assumes nothing.
 use borrow.Author.Tests.{eq-eqb, ne-eqb}
-use Rattle.exports_restore.specs.Jobs.{phaseIn}
-use Rattle.exports_restore.proofs.phase_of.Statement.{statement}
-use Rattle.exports_restore.proofs.phase_of.Tie as tie
+use Rattle.restore_bytes.specs.Jobs.{phaseIn}
+use Rattle.restore_bytes.proofs.phase_of.Statement.{statement}
+use Rattle.restore_bytes.proofs.phase_of.Tie as tie
 
 returns : tie.Need-returns
 unfolding phaseIn

@@ -1,10 +1,10 @@
--- `exports_restore::is_job` meets its contract: by the two tests.
+-- `restore_bytes::is_job` meets its contract: by the two tests.
 -- Assumes nothing.
 use borrow.Author.Tests.{eq-eqb, ne-eqb}
-use Rattle.exports_restore.specs.Jobs.{isJob}
+use Rattle.restore_bytes.specs.Jobs.{isJob}
 use borrow.Author.Needs.{needs}
-use Rattle.exports_restore.proofs.is_job.Statement.{statement}
-use Rattle.exports_restore.proofs.is_job.Tie as tie
+use Rattle.restore_bytes.proofs.is_job.Statement.{statement}
+use Rattle.restore_bytes.proofs.is_job.Tie as tie
 
 returns : tie.Need-returns
 unfolding isJob

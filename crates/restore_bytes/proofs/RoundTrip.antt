@@ -9,16 +9,16 @@ use borrow.Author.Tests.{eq-eqb}
 use lib.Dec.{leb}
 use lib.IntN.{ℤ}
 use lib.Signed.{mag}
-use lib.ListN.{length, getD, take, drop, length-append}
-use lib.Seq.{take-at, drop-at, getD-at, getD-append-add}
+use lib.ListN.{length, getD, drop, length-append}
+use lib.Seq.{drop-at, getD-at, getD-append-add}
 use Rattle.records_pathfinder.specs.Words.{wordOf, words}
 use Rattle.requests_pathfinder.proofs.RoundTrip.{value-reads-back}
 use Rattle.restore_pathfinder.specs.declared.Phase.{Phase}
 use Rattle.restore_pathfinder.specs.declared.Phase.the-variants.{Ready, Waiting, Stopped}
 use Rattle.restore_pathfinder.specs.declared.Job.{Job}
-use Rattle.exports_restore.specs.Jobs.{wordBytes, phaseByte, registerByte, phaseBytes, jobBytes, isJob, phaseIn, jobOf}
-use Rattle.exports_restore.proofs.Bytes.{bytes-length}
-use Rattle.exports_restore.proofs.Held.{job-is}
+use Rattle.restore_bytes.specs.Jobs.{wordBytes, phaseByte, registerByte, phaseBytes, jobBytes, isJob, phaseIn, jobOf}
+use Rattle.restore_bytes.proofs.Bytes.{bytes-length}
+use Rattle.restore_bytes.proofs.Held.{job-is}
 
 -- every value fits 32 bits, as those in a variable do
 abbrev pub Fitting : List ℤ → Type 0
@@ -43,11 +43,13 @@ words-front (suc n) a b c d s =
     ap₂ (λ (l : List ℤ) (w : ℤ). l ++ (w ∷ [])) (words-front n a b c d s)
     (rw (later-first a b c d n s, later a b c d 1 n s, later a b c d 2 n s, later a b c d 3 n s) refl)
 
-words-back : (vs : List ℤ) → Fitting vs → words (length vs) (wordBytes vs) ≡ vs
+-- whatever follows them
+words-back : (vs : List ℤ) (rest : List ℕ) → Fitting vs → words (length vs) (wordBytes vs ++ rest) ≡ vs
 unfolding words wordBytes
-words-back [] f = refl
-words-back (v ∷ vs) f =
-    words-front (length vs) _ _ _ _ (wordBytes vs) ∙ ap₂ (λ (x : ℤ) (l : List ℤ). x ∷ l) (value-reads-back v (f .0)) (words-back vs (f .1))
+words-back [] rest f = refl
+words-back (v ∷ vs) rest f =
+    words-front (length vs) _ _ _ _ (wordBytes vs ++ rest)
+    ∙ ap₂ (λ (x : ℤ) (l : List ℤ). x ∷ l) (value-reads-back v (f .0)) (words-back vs rest (f .1))
 
 -- ---- the job
 
@@ -80,13 +82,8 @@ module _ (j : Job) (present : length (j .present) ≡ 50) (wanted : length (j .w
   unfolding jobBytes
   grouped = append-assoc (wordBytes (j .present)) (wordBytes (j .wanted)) (phaseBytes (j .phase))
 
-  first-part : take 200 (jobBytes j) ≡ wordBytes (j .present)
-  first-part = ap (take 200) grouped ∙ take-at (wordBytes (j .present)) _ 200 p-size
-
-  second-part : take 60 (drop 200 (jobBytes j)) ≡ wordBytes (j .wanted)
-  second-part =
-      ap (λ (l : List ℕ). take 60 (drop 200 l)) grouped ∙ ap (take 60) (drop-at (wordBytes (j .present)) _ 200 p-size)
-      ∙ take-at (wordBytes (j .wanted)) _ 60 w-size
+  second-part : drop 200 (jobBytes j) ≡ wordBytes (j .wanted) ++ phaseBytes (j .phase)
+  second-part = ap (drop 200) grouped ∙ drop-at (wordBytes (j .present)) _ 200 p-size
 
   phase-there : getD (jobBytes j) 260 0 ≡ phaseByte (j .phase)
   unfolding jobBytes
@@ -106,6 +103,6 @@ module _ (j : Job) (present : length (j .present) ≡ 50) (wanted : length (j .w
   pub job-back : Fitting (j .present) → Fitting (j .wanted) → jobOf (jobBytes j) ≡ j
   job-back f g =
       sym (job-is (jobBytes j)
-      (sym (ap₂ words (sym present) first-part ∙ words-back (j .present) f))
-      (sym (ap₂ words (sym wanted) second-part ∙ words-back (j .wanted) g))
+      (sym (ap₂ words (sym present) grouped ∙ words-back (j .present) _ f))
+      (sym (ap₂ words (sym wanted) second-part ∙ words-back (j .wanted) _ g))
       (sym (ap₂ phaseIn phase-there register-there ∙ phase-back (j .phase))))

@@ -1,33 +1,29 @@
--- `exports_restore::put_words` meets its contract. The loop's invariant: the words so far stand in front of what was there past them.
+-- `restore_bytes::put_words` meets its contract. The loop's invariant: the words so far are put.
 -- Assumes nothing.
-use Prim.Native.Nat.{_-_, _*_, _≤_}
+use Prim.Native.Nat.{_+_, _-_, _*_, _≤_}
 use mathlib.Core.Path.{_≡_, refl, ap, _∙_}
-use mathlib.Core.List.{_++_}
+use mathlib.Core.List.{[], _∷_}
 use native.Mathlib.Omega.{arith}
 use lib.IntN.{pos}
-use lib.ListN.{length, getD, take, drop}
+use lib.ListN.{length, getD, take}
 use mir.Syntax.{w32}
 use mir.Val.{toZ, ofZ}
 use mir.ValLaws.{toZ-ofZ}
-use Rattle.exports_restore.specs.Jobs.{valueBytes, wordBytes}
-use Rattle.exports_restore.proofs.Bytes.{word-placed, all-words}
+use Rattle.restore_bytes.specs.Jobs.{wordsPut}
+use Rattle.restore_bytes.proofs.Bytes.{none-put, one-put, all-put}
 use borrow.Author.Needs.{needs}
-use Rattle.exports_restore.proofs.put_words.Statement.{statement}
-use Rattle.exports_restore.proofs.put_words.Tie as tie
+use Rattle.restore_bytes.proofs.put_words.Statement.{statement}
+use Rattle.restore_bytes.proofs.put_words.Tie as tie
 
 abbrev Inv-loop : tie.InvT-loop
-Inv-loop numbers out₀ i₀ out i =
-    (i ≤ length numbers) × (out ≡ wordBytes (take i numbers) ++ drop (4 * i) out₀) × (length out ≡ length out₀)
+Inv-loop numbers from b₀ i₀ b i =
+    (i ≤ length numbers) × (b ≡ wordsPut from (take i numbers) b₀) × (length b ≡ length b₀)
 
 abbrev μ-loop : tie.MeasureT-loop
-μ-loop numbers out₀ i₀ out i = length numbers - i
+μ-loop numbers from b₀ i₀ b i = length numbers - i
 
 loop-holds : tie.Need-loop-holds Inv-loop μ-loop
-unfolding wordBytes
-loop-holds c = (search needs, refl, refl)
-
-mul-at : tie.Need-mul-at Inv-loop μ-loop
-mul-at c = search needs
+loop-holds c = let a = c .before .args in (search needs, none-put (a .numbers .now) (a .b .now) (a .from), refl)
 
 mul-put-word : tie.Need-mul-put-word Inv-loop μ-loop
 mul-put-word c = search needs
@@ -35,17 +31,11 @@ mul-put-word c = search needs
 shared-slice-copy-out-put-word : tie.Need-shared-slice-copy-out-put-word Inv-loop μ-loop
 shared-slice-copy-out-put-word c = search needs
 
+mul-put-word-2 : tie.Need-mul-put-word-2 Inv-loop μ-loop
+mul-put-word-2 c = search needs
+
 add-put-word : tie.Need-add-put-word Inv-loop μ-loop
 add-put-word c = search needs
-
-sub-put-word : tie.Need-sub-put-word Inv-loop μ-loop
-sub-put-word c = search needs
-
-part-put-word-start : tie.Need-part-put-word-start Inv-loop μ-loop
-part-put-word-start c = search needs
-
-part-put-word-end : tie.Need-part-put-word-end Inv-loop μ-loop
-part-put-word-end c = search needs
 
 put-word-requires : tie.Need-put-word-requires Inv-loop μ-loop
 put-word-requires c κs = search needs
@@ -63,8 +53,8 @@ loop-again c =
     let v = getD (a .numbers .now) (l .i) (pos 0) in
     let held : toZ w32 (ofZ w32 v) ≡ v = toZ-ofZ w32 v (record { sfits = c .before .before .before .before .put-word-arg .given }) in (
       omega arith,
-      word-placed (a .numbers .now) (a .out .now) (l .out) _ (l .i) (l .inv .1) (omega arith) (c .before .before .put-word .ensures ∙ ap valueBytes held),
-      omega (arith, c .before .out .given),
+      c .before .before .put-word .ensures ∙ ap (λ x. wordsPut (a .from + 4 * l .i) (x ∷ []) (l .b)) held ∙ one-put (a .numbers .now) (a .b .now) (a .from) (omega arith) (l .b) (l .i) (l .inv .1) (omega arith),
+      omega (arith, c .before .b .given),
     )
 
 same-length : tie.Need-same-length Inv-loop μ-loop
@@ -74,7 +64,7 @@ returns : tie.Need-returns Inv-loop μ-loop
 returns c =
     let l = c .before .loop in
     let a = c .before .before .before .args in
-    all-words (a .numbers .now) (a .out .now) (l .out) (l .i) (l .inv .1) (omega arith) (omega arith)
+    all-put (a .numbers .now) (a .b .now) (a .from) (l .b) (l .i) (l .inv .1) (omega arith)
 
 pub put-words-spec : {M : Type 1} → statement M
 put-words-spec =
@@ -83,13 +73,10 @@ put-words-spec =
     Inv-loop
     μ-loop
     loop-holds
-    mul-at
     mul-put-word
     shared-slice-copy-out-put-word
+    mul-put-word-2
     add-put-word
-    sub-put-word
-    part-put-word-start
-    part-put-word-end
     put-word-requires
     add-i
     loop-less
