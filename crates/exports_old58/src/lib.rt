@@ -1,7 +1,7 @@
 // The 58-byte monitor for other languages (`rt staticlib exports_old58`): numbers and slices only, safe with any input.
 // `specs/Records.antt` says at which place of the row each value stands.
+use exports_parts::put_i32;
 use exports_rows::coded;
-use exports_rows::put_i32;
 use old58::Judged;
 use old58::judge;
 use parts_old58::Cell;

@@ -3,12 +3,13 @@
 -- (docs/DECISIONS.md, C and Rust). Assumes nothing.
 use Prim.Native.Nat.{ℕ, _+_, _*_, _%_}
 use mathlib.Core.List.{List, [], _∷_, _++_}
-use lib.Dec.{ltb, leb}
+use lib.Dec.{ltb}
 use lib.IntN.{ℤ}
-use lib.ListN.{length, take, drop}
+use lib.ListN.{length, drop}
 use Rattle.laws.specs.Choice.{pick}
 use Rattle.refusals.specs.declared.Refusal.{Refusal}
 use Rattle.refusals.specs.Refused.{room}
+use Rattle.exports_parts.specs.Parts.{placed}
 
 pub data Told : Type 0 where
   -- these numbers, in a row
@@ -54,10 +55,6 @@ textAfter (plain kind n) text = text
 textAfter (refused r) text = text
 
 -- ---- parts of a row
-
--- values from the place `at` on, all else as it was; where the row ends before, nothing changes
-unfoldable pub placed : ℕ → List ℤ → List ℤ → List ℤ
-placed at values row = pick (leb (at + length values) (length row)) (take at row ++ values ++ drop (at + length values) row) row
 
 -- parts one behind the other from the place `at` on, of these sizes
 abbrev pub behind : ℕ → List (List ℤ) → List ℕ → List ℤ → List ℤ

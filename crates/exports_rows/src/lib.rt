@@ -1,11 +1,10 @@
 // Answers for languages that share no enum and no struct: one number for the answer, a lent row of numbers for its values, lent bytes for
 // its text. `specs/Told.antt` says which number and which values; the crates `exports_*` say it for each device.
+use exports_parts::put_i32;
 use refusals::Written;
 ghost use mathlib.Core.Path.{_≡_};
-ghost use mathlib.Core.List.{map};
-ghost use lib.IntN.{pos};
 ghost use lib.ListN.{length};
-ghost use Rattle.exports_rows.specs.Told.{codedAs, roomCode, over, placed};
+ghost use Rattle.exports_rows.specs.Told.{codedAs, roomCode, over};
 ghost use Rattle.exports_rows.specs.Writing.{writtenCode};
 
 // A kind of answer and its number in one: the number below 2 to the 32, the kind above it.
@@ -47,58 +46,4 @@ pub fn put_text(kind: u8, text: &[u8], out: &mut [u8]) -> u64
     }
     bytes::copy(text, out);
     coded(kind, text.len())
-}
-
-// The numbers from the place `at` of the row on; where the row ends before, nothing.
-pub fn put_i32(numbers: &[i32], at: usize, row: &mut [i32])
-    ensures { λ _. ⌜ now (row .exit) ≡ placed at (now (numbers .entry)) (now (row .entry)) ⌝ }
-{
-    if row.len() < at {
-        return;
-    }
-    if row.len() - at < numbers.len() {
-        return;
-    }
-    let mut i = 0;
-    while i < numbers.len() {
-        let v = numbers[i];
-        row[at + i] = v;
-        i += 1;
-    }
-}
-
-// The same of bytes.
-pub fn put_u8(numbers: &[u8], at: usize, row: &mut [i32])
-    ensures { λ _. ⌜ now (row .exit) ≡ placed at (map pos (now (numbers .entry))) (now (row .entry)) ⌝ }
-{
-    if row.len() < at {
-        return;
-    }
-    if row.len() - at < numbers.len() {
-        return;
-    }
-    let mut i = 0;
-    while i < numbers.len() {
-        let byte = numbers[i] as i32;
-        row[at + i] = byte;
-        i += 1;
-    }
-}
-
-// The same of numbers of 16 bits.
-pub fn put_u16(numbers: &[u16], at: usize, row: &mut [i32])
-    ensures { λ _. ⌜ now (row .exit) ≡ placed at (map pos (now (numbers .entry))) (now (row .entry)) ⌝ }
-{
-    if row.len() < at {
-        return;
-    }
-    if row.len() - at < numbers.len() {
-        return;
-    }
-    let mut i = 0;
-    while i < numbers.len() {
-        let half = numbers[i] as i32;
-        row[at + i] = half;
-        i += 1;
-    }
 }

@@ -1,4 +1,4 @@
--- `exports_rows::put_i32` meets its contract. The loop's invariant: the first i values stand from the place `at` on, all else as it was.
+-- `exports_parts::put_i32` meets its contract. The loop's invariant: the first i values stand from the place `at` on, all else as it was.
 -- Assumes nothing.
 use Prim.Native.Nat.{_-_}
 use mathlib.Core.Path.{refl}
@@ -6,11 +6,11 @@ use lib.IntN.{pos}
 use lib.ListN.{length}
 use mir.Syntax.{w32}
 use mir.ValLaws.{toZ-ofZ}
-use Rattle.exports_rows.proofs.Placing.{Standing, none-stands, one-more, all-stand, none-placed}
+use Rattle.exports_parts.proofs.Placing.{Standing, none-stands, one-more, all-stand, none-placed}
 use native.Mathlib.Omega.{arith}
 use borrow.Author.Needs.{needs}
-use Rattle.exports_rows.proofs.put_i32.Statement.{statement}
-use Rattle.exports_rows.proofs.put_i32.Tie as tie
+use Rattle.exports_parts.proofs.put_i32.Statement.{statement}
+use Rattle.exports_parts.proofs.put_i32.Tie as tie
 
 abbrev Inv-loop : tie.InvT-loop
 Inv-loop numbers at row₀ i₀ row i = Standing (length numbers) at numbers row₀ row i

@@ -1,16 +1,16 @@
--- `exports_rows::put_u16` meets its contract. The loop's invariant: the first i values stand from the place `at` on, all else as it was.
+-- `exports_parts::put_u8` meets its contract. The loop's invariant: the first i values stand from the place `at` on, all else as it was.
 -- Assumes nothing.
 use Prim.Native.Nat.{_-_}
 use mathlib.Core.List.{map}
 use lib.IntN.{pos}
 use lib.ListN.{length, length-map}
 use mir.Syntax.{w32}
-use Rattle.exports_rows.proofs.Placing.{Standing, none-stands, one-more, all-stand, none-placed}
-use Rattle.exports_rows.proofs.Widening.{widened}
+use Rattle.exports_parts.proofs.Placing.{Standing, none-stands, one-more, all-stand, none-placed}
+use Rattle.exports_parts.proofs.Widening.{widened}
 use native.Mathlib.Omega.{arith}
 use borrow.Author.Needs.{needs}
-use Rattle.exports_rows.proofs.put_u16.Statement.{statement}
-use Rattle.exports_rows.proofs.put_u16.Tie as tie
+use Rattle.exports_parts.proofs.put_u8.Statement.{statement}
+use Rattle.exports_parts.proofs.put_u8.Tie as tie
 
 abbrev Inv-loop : tie.InvT-loop
 Inv-loop numbers at row₀ i₀ row i = Standing (length numbers) at (map pos numbers) row₀ row i
@@ -30,23 +30,20 @@ returns-2 c = let a = c .before .before .args in none-placed _ (a .at) (map pos 
 loop-holds : tie.Need-loop-holds Inv-loop μ-loop
 loop-holds c = let a = c .before .before .args in none-stands _ (a .at) (map pos (a .numbers .now)) (a .row .now) (length-map (a .numbers .now) pos) (omega arith)
 
-mul-half : tie.Need-mul-half Inv-loop μ-loop
-mul-half c = search needs
+shared-slice-read-byte : tie.Need-shared-slice-read-byte Inv-loop μ-loop
+shared-slice-read-byte c = search needs
 
-shared-slice-read-half : tie.Need-shared-slice-read-half Inv-loop μ-loop
-shared-slice-read-half c = search needs
+cast-byte : tie.Need-cast-byte Inv-loop μ-loop
+cast-byte c = record { sfits = omega (arith, c .shared-slice-known .given (c .before .before .loop .i)) }
 
-cast-half : tie.Need-cast-half Inv-loop μ-loop
-cast-half c = record { sfits = omega (arith, c .shared-slice-known .given (c .before .before .loop .i)) }
+add-byte : tie.Need-add-byte Inv-loop μ-loop
+add-byte c = search needs
 
-add-half : tie.Need-add-half Inv-loop μ-loop
-add-half c = search needs
+mul-byte : tie.Need-mul-byte Inv-loop μ-loop
+mul-byte c = search needs
 
-mul-half-2 : tie.Need-mul-half-2 Inv-loop μ-loop
-mul-half-2 c = search needs
-
-slice-set-from-half : tie.Need-slice-set-from-half Inv-loop μ-loop
-slice-set-from-half c = search needs
+slice-set-from-byte : tie.Need-slice-set-from-byte Inv-loop μ-loop
+slice-set-from-byte c = search needs
 
 add-i : tie.Need-add-i Inv-loop μ-loop
 add-i c = search needs
@@ -69,8 +66,8 @@ returns-3 c =
     let a = c .before .before .before .before .args in
     all-stand _ (a .at) (map pos (a .numbers .now)) (a .row .now) (length-map (a .numbers .now) pos) (l .row) (l .i) (l .inv) (omega arith)
 
-pub put-u16-spec : {M : Type 1} → statement M
-put-u16-spec =
+pub put-u8-spec : {M : Type 1} → statement M
+put-u8-spec =
     tie.close
     (tie.spec
     Inv-loop
@@ -79,12 +76,11 @@ put-u16-spec =
     sub-if2
     returns-2
     loop-holds
-    mul-half
-    shared-slice-read-half
-    cast-half
-    add-half
-    mul-half-2
-    slice-set-from-half
+    shared-slice-read-byte
+    cast-byte
+    add-byte
+    mul-byte
+    slice-set-from-byte
     add-i
     loop-less
     loop-again

@@ -1,0 +1,59 @@
+// A part of a row: numbers of one list, placed in a lent row from a place on (`specs/Parts.antt`). A row in which they do not fit stays as it was.
+ghost use mathlib.Core.Path.{_≡_};
+ghost use mathlib.Core.List.{map};
+ghost use lib.IntN.{pos};
+ghost use Rattle.exports_parts.specs.Parts.{placed};
+
+// The numbers from the place `at` of the row on; where the row ends before, nothing.
+pub fn put_i32(numbers: &[i32], at: usize, row: &mut [i32])
+    ensures { λ _. ⌜ now (row .exit) ≡ placed at (now (numbers .entry)) (now (row .entry)) ⌝ }
+{
+    if row.len() < at {
+        return;
+    }
+    if row.len() - at < numbers.len() {
+        return;
+    }
+    let mut i = 0;
+    while i < numbers.len() {
+        let v = numbers[i];
+        row[at + i] = v;
+        i += 1;
+    }
+}
+
+// The same of bytes.
+pub fn put_u8(numbers: &[u8], at: usize, row: &mut [i32])
+    ensures { λ _. ⌜ now (row .exit) ≡ placed at (map pos (now (numbers .entry))) (now (row .entry)) ⌝ }
+{
+    if row.len() < at {
+        return;
+    }
+    if row.len() - at < numbers.len() {
+        return;
+    }
+    let mut i = 0;
+    while i < numbers.len() {
+        let byte = numbers[i] as i32;
+        row[at + i] = byte;
+        i += 1;
+    }
+}
+
+// The same of numbers of 16 bits.
+pub fn put_u16(numbers: &[u16], at: usize, row: &mut [i32])
+    ensures { λ _. ⌜ now (row .exit) ≡ placed at (map pos (now (numbers .entry))) (now (row .entry)) ⌝ }
+{
+    if row.len() < at {
+        return;
+    }
+    if row.len() - at < numbers.len() {
+        return;
+    }
+    let mut i = 0;
+    while i < numbers.len() {
+        let half = numbers[i] as i32;
+        row[at + i] = half;
+        i += 1;
+    }
+}
