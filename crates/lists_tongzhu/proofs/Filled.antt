@@ -13,7 +13,7 @@ use lib.Seq.{drop-drop}
 use Rattle.laws.specs.Firsts.{firsts}
 use Rattle.laws.proofs.Filling.{part-length}
 use Rattle.laws.proofs.Firsts.{firsts-length}
-use Rattle.exports_rows.specs.Told.{placed}
+use Rattle.exports_parts.specs.Parts.{placed}
 use Rattle.monitor3_tongzhu.specs.Values.{placesOf}
 
 pub places-length : {A : Type 0} (k : ℕ) (z : A) (f : ℕ → A) (n : ℕ) → n ≤ k → length (placesOf k z f n) ≡ k

@@ -1,7 +1,7 @@
 -- `exports_tongzhu::put_monitor3` meets its contract: 11 where the row is too short, else the numbers and the lists, placed one after the other.
 -- Assumes nothing.
 use mathlib.Core.Path.{refl, sym, ap, _∙_}
-use Rattle.exports_rows.specs.Told.{placed}
+use Rattle.exports_parts.specs.Parts.{placed}
 use Rattle.exports_rows.proofs.Placing.{total, parts-told, parts-untold}
 use Rattle.monitor3_tongzhu.specs.Layout.{listsAt}
 use Rattle.flat_tongzhu.specs.Numbers.{monitor3Numbers}

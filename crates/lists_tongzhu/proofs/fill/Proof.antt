@@ -10,7 +10,7 @@ use Rattle.monitor3_tongzhu.proofs.Shapes.{places-within}
 use Rattle.monitor3_tongzhu.specs.declared.Places.{Places}
 use Rattle.monitor3_tongzhu.specs.Values.{numberAt, temperatureAt, placesOf}
 use Rattle.monitor3_tongzhu.specs.Layout.{Within, listsIn}
-use Rattle.exports_rows.specs.Told.{placed}
+use Rattle.exports_parts.specs.Parts.{placed}
 use Rattle.lists_tongzhu.specs.Lists.{placedLists}
 use Rattle.lists_tongzhu.proofs.Filled.{map-places, part-room, part-filled}
 use borrow.Author.Needs.{needs}
