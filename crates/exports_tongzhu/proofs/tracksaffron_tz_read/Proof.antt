@@ -12,7 +12,7 @@ use Rattle.records_tongzhu.specs.Replies.{replyOf}
 use Rattle.records_tongzhu.proofs.Answers.{no-frame, whole-frame}
 use Rattle.exports_rows.specs.Told.{codeOf, rowAfter}
 use Rattle.exports_rows.proofs.Telling.{told-refused}
-use Rattle.exports_tongzhu.specs.Replies.{toldOf}
+use Rattle.told_tongzhu.specs.Replies.{toldOf}
 use borrow.Author.Needs.{needs}
 use Rattle.exports_tongzhu.proofs.tracksaffron_tz_read.Statement.{statement}
 use Rattle.exports_tongzhu.proofs.tracksaffron_tz_read.Tie as tie
@@ -37,20 +37,20 @@ cast-result c = search needs
 enum-known-f-2 : tie.Need-enum-known-f-2
 enum-known-f-2 c = search needs
 
-add-tell-payload : tie.Need-add-tell-payload
-add-tell-payload c = let d = whole-parts _ _ _ _ (is-frame c) in omega arith
+add-tell : tie.Need-add-tell
+add-tell c = let d = whole-parts _ _ _ _ (is-frame c) in omega arith
 
-sub-tell-payload : tie.Need-sub-tell-payload
-sub-tell-payload c = search needs
+sub-tell : tie.Need-sub-tell
+sub-tell c = search needs
 
-part-tell-payload-start : tie.Need-part-tell-payload-start
-part-tell-payload-start c = search needs
+part-tell-start : tie.Need-part-tell-start
+part-tell-start c = search needs
 
-part-tell-payload-end : tie.Need-part-tell-payload-end
-part-tell-payload-end c = let d = whole-parts _ _ _ _ (is-frame c) in omega arith
+part-tell-end : tie.Need-part-tell-end
+part-tell-end c = let d = whole-parts _ _ _ _ (is-frame c) in omega arith
 
-tell-payload-requires : tie.Need-tell-payload-requires
-tell-payload-requires c κs = search needs
+tell-requires : tie.Need-tell-requires
+tell-requires c κs = search needs
 
 returns : tie.Need-returns
 returns c =
@@ -64,7 +64,7 @@ same-length c = search needs
 returns-2 : tie.Need-returns-2
 returns-2 c =
     let a = c .before .before .before .before .before .before .before .before .before .args in
-    let e = c .before .tell-payload .ensures in
+    let e = c .before .tell .ensures in
     let same = whole-frame (a .asked) (a .s .now) _ _ _ (is-frame (c .before .before .before .before)) in (
       e .0 ∙ ap (λ (r : Reply). codeOf (toldOf r) (length (a .row .now)) 0) same,
       e .1 ∙ ap (λ (r : Reply). rowAfter (toldOf r) (a .row .now)) same,
@@ -78,11 +78,11 @@ tracksaffron-tz-read-spec =
     enum-known-f
     cast-result
     enum-known-f-2
-    add-tell-payload
-    sub-tell-payload
-    part-tell-payload-start
-    part-tell-payload-end
-    tell-payload-requires
+    add-tell
+    sub-tell
+    part-tell-start
+    part-tell-end
+    tell-requires
     returns
     same-length
     returns-2)

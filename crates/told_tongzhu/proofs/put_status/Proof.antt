@@ -1,12 +1,12 @@
--- `exports_tongzhu::put_status` meets its contract: the numbers of the record, put.
+-- `told_tongzhu::put_status` meets its contract: the numbers of the record, put.
 -- Assumes nothing.
 use mathlib.Core.Path.{refl}
 use Rattle.flat_tongzhu.specs.Numbers.{statusNumbers}
 use Rattle.exports_rows.specs.Told.{numbers}
 use Rattle.exports_rows.proofs.Telling.{told-numbers}
 use borrow.Author.Needs.{needs}
-use Rattle.exports_tongzhu.proofs.put_status.Statement.{statement}
-use Rattle.exports_tongzhu.proofs.put_status.Tie as tie
+use Rattle.told_tongzhu.proofs.put_status.Statement.{statement}
+use Rattle.told_tongzhu.proofs.put_status.Tie as tie
 
 status-numbers-requires : tie.Need-status-numbers-requires
 status-numbers-requires c κs = search needs

@@ -1,4 +1,4 @@
--- `exports_tongzhu::put_monitor3` meets its contract: 11 where the row is too short, else the numbers and the lists, placed one after the other.
+-- `told_tongzhu::put_monitor3` meets its contract: 11 where the row is too short, else the numbers and the lists, placed one after the other.
 -- Assumes nothing.
 use mathlib.Core.Path.{refl, sym, ap, _∙_}
 use Rattle.exports_rows.specs.Told.{placed}
@@ -7,10 +7,10 @@ use Rattle.monitor3_tongzhu.specs.Layout.{listsAt}
 use Rattle.flat_tongzhu.specs.Numbers.{monitor3Numbers}
 use Rattle.lists_tongzhu.specs.Lists.{placedLists}
 use Rattle.lists_tongzhu.proofs.Listed.{lists-sized, listed-all}
-use Rattle.exports_tongzhu.specs.Replies.{partsOf, sizes}
+use Rattle.told_tongzhu.specs.Replies.{partsOf, sizes}
 use borrow.Author.Needs.{needs}
-use Rattle.exports_tongzhu.proofs.put_monitor3.Statement.{statement}
-use Rattle.exports_tongzhu.proofs.put_monitor3.Tie as tie
+use Rattle.told_tongzhu.proofs.put_monitor3.Statement.{statement}
+use Rattle.told_tongzhu.proofs.put_monitor3.Tie as tie
 
 cast-result : tie.Need-cast-result
 cast-result c = search needs

@@ -1,60 +1,61 @@
--- `exports_tongzhu::tell` meets its contract: by the answer; the calls that put the values say the rest.
+-- `told_tongzhu::tell_answer` meets its contract: by the answer; the calls that put the values say the rest.
 -- Assumes nothing.
 use mathlib.Core.Path.{_≡_, refl, sym, ap}
 use mathlib.Core.List.{[], _∷_}
 use lib.IntN.{ℤ}
 use mir.Syntax.{w16}
 use mir.Val.{toZ, ofZ}
-use Rattle.exports_rows.proofs.Telling.{told-numbers}
-use Rattle.exports_tongzhu.specs.Replies.{toldIn}
+use Rattle.exports_rows.proofs.Telling.{told-numbers, told-refused}
+use Rattle.told_tongzhu.proofs.Plain.{told-plain}
+use Rattle.told_tongzhu.specs.Replies.{toldIn}
 use borrow.Author.Needs.{needs}
-use Rattle.exports_tongzhu.proofs.tell.Statement.{statement}
-use Rattle.exports_tongzhu.proofs.tell.Tie as tie
+use Rattle.told_tongzhu.proofs.tell_answer.Statement.{statement}
+use Rattle.told_tongzhu.proofs.tell_answer.Tie as tie
 
 enum-known-answer : tie.Need-enum-known-answer
-enum-known-answer c = search needs
+enum-known-answer c = c .match .keys1
 
 put-monitor2-requires : tie.Need-put-monitor2-requires
 put-monitor2-requires c κs = tt
 
 enum-known-answer-2 : tie.Need-enum-known-answer-2
-enum-known-answer-2 c = search needs
+enum-known-answer-2 c = c .match .keys2
 
 put-monitor3-requires : tie.Need-put-monitor3-requires
 put-monitor3-requires c κs = tt
 
 enum-known-answer-3 : tie.Need-enum-known-answer-3
-enum-known-answer-3 c = search needs
+enum-known-answer-3 c = c .match .keys3
 
 put-status-requires : tie.Need-put-status-requires
 put-status-requires c κs = tt
 
 enum-known-answer-4 : tie.Need-enum-known-answer-4
-enum-known-answer-4 c = search needs
+enum-known-answer-4 c = c .match .keys4
 
 put-current-requires : tie.Need-put-current-requires
 put-current-requires c κs = tt
 
 enum-told : tie.Need-enum-told
-enum-told c = search needs
+enum-told c = c .match .keys5
 
 coded-requires : tie.Need-coded-requires
 coded-requires c κs = tt
 
 enum-told-2 : tie.Need-enum-told-2
-enum-told-2 c = search needs
+enum-told-2 c = c .match .keys6
 
 coded-requires-2 : tie.Need-coded-requires-2
 coded-requires-2 c κs = tt
 
 enum-told-3 : tie.Need-enum-told-3
-enum-told-3 c = search needs
+enum-told-3 c = c .match .keys7
 
 coded-requires-3 : tie.Need-coded-requires-3
 coded-requires-3 c κs = tt
 
 enum-known-answer-5 : tie.Need-enum-known-answer-5
-enum-known-answer-5 c = search needs
+enum-known-answer-5 c = c .match .keys8
 
 cast-result : tie.Need-cast-result
 cast-result c = search needs
@@ -98,19 +99,27 @@ returns-4 c =
     told-numbers (toldIn (a .answer) (a .p .now)) (a .row .now) 0 (ap (λ x. toldIn x (a .p .now)) (sym (v .1))) (ap (λ (z : ℤ). z ∷ []) held) (e .0) (e .1)
 
 returns-5 : tie.Need-returns-5
-returns-5 c = search needs
+returns-5 c =
+    let a = c .before .before .before .before .args in
+    told-plain (toldIn (a .answer) (a .p .now)) (a .row .now) 0 (ap (λ x. toldIn x (a .p .now)) (sym (c .before .enum-told .given .1))) (c .coded .ensures)
 
 returns-6 : tie.Need-returns-6
-returns-6 c = search needs
+returns-6 c =
+    let a = c .before .before .before .before .args in
+    told-plain (toldIn (a .answer) (a .p .now)) (a .row .now) 0 (ap (λ x. toldIn x (a .p .now)) (sym (c .before .enum-told2 .given .1))) (c .coded2 .ensures)
 
 returns-7 : tie.Need-returns-7
-returns-7 c = search needs
+returns-7 c =
+    let a = c .before .before .before .before .args in
+    told-plain (toldIn (a .answer) (a .p .now)) (a .row .now) 0 (ap (λ x. toldIn x (a .p .now)) (sym (c .before .enum-told3 .given .1))) (c .coded3 .ensures)
 
 returns-8 : tie.Need-returns-8
-returns-8 c = search needs
+returns-8 c =
+    let a = c .before .before .before .before .before .args in
+    told-refused (toldIn (a .answer) (a .p .now)) (a .row .now) 0 (ap (λ x. toldIn x (a .p .now)) (sym (c .before .before .answer5 .given .1)))
 
-pub tell-spec : {M : Type 1} → statement M
-tell-spec =
+pub tell-answer-spec : {M : Type 1} → statement M
+tell-answer-spec =
     tie.close
     (tie.spec
     enum-known-answer

@@ -1,14 +1,14 @@
--- `exports_tongzhu::tell_monitor3` meets its contract: what the fields' reader found, told.
+-- `told_tongzhu::tell_monitor3` meets its contract: what the fields' reader found, told.
 -- Assumes nothing.
 use mathlib.Core.Path.{refl, sym, ap, _∙_}
 use Rattle.monitor3_tongzhu.specs.declared.Found.{Found}
 use Rattle.monitor3_tongzhu.specs.Layout.{foundAt}
 use Rattle.records_tongzhu.specs.Replies.{answerIn}
 use Rattle.exports_rows.proofs.Telling.{told-numbers, told-refused}
-use Rattle.exports_tongzhu.specs.Replies.{toldIn}
+use Rattle.told_tongzhu.specs.Replies.{toldIn}
 use borrow.Author.Needs.{needs}
-use Rattle.exports_tongzhu.proofs.tell_monitor3.Statement.{statement}
-use Rattle.exports_tongzhu.proofs.tell_monitor3.Tie as tie
+use Rattle.told_tongzhu.proofs.tell_monitor3.Statement.{statement}
+use Rattle.told_tongzhu.proofs.tell_monitor3.Tie as tie
 
 read-numbers-requires : tie.Need-read-numbers-requires
 read-numbers-requires c κs = search needs

@@ -1,12 +1,12 @@
--- `exports_tongzhu::put_monitor2` meets its contract: the numbers of the record, put.
+-- `told_tongzhu::put_monitor2` meets its contract: the numbers of the record, put.
 -- Assumes nothing.
 use mathlib.Core.Path.{refl}
 use Rattle.flat_tongzhu.specs.Numbers.{monitor2Numbers}
 use Rattle.exports_rows.specs.Told.{numbers}
 use Rattle.exports_rows.proofs.Telling.{told-numbers}
 use borrow.Author.Needs.{needs}
-use Rattle.exports_tongzhu.proofs.put_monitor2.Statement.{statement}
-use Rattle.exports_tongzhu.proofs.put_monitor2.Tie as tie
+use Rattle.told_tongzhu.proofs.put_monitor2.Statement.{statement}
+use Rattle.told_tongzhu.proofs.put_monitor2.Tie as tie
 
 monitor2-numbers-requires : tie.Need-monitor2-numbers-requires
 monitor2-numbers-requires c κs = search needs

@@ -1,4 +1,4 @@
--- `exports_tongzhu::put_current` meets its contract: one number, which reads as it is, put.
+-- `told_tongzhu::put_current` meets its contract: one number, which reads as it is, put.
 -- Assumes nothing.
 use mathlib.Core.Path.{refl}
 use mathlib.Core.List.{[], _∷_}
@@ -7,8 +7,8 @@ use Rattle.widths.proofs.Widening.{signed-fits, signed-then}
 use Rattle.exports_rows.specs.Told.{numbers}
 use Rattle.exports_rows.proofs.Telling.{told-numbers}
 use borrow.Author.Needs.{needs}
-use Rattle.exports_tongzhu.proofs.put_current.Statement.{statement}
-use Rattle.exports_tongzhu.proofs.put_current.Tie as tie
+use Rattle.told_tongzhu.proofs.put_current.Statement.{statement}
+use Rattle.told_tongzhu.proofs.put_current.Tie as tie
 
 cast-t4 : tie.Need-cast-t4
 cast-t4 c = signed-fits w16 (c .args .v) tt (c .fits .v)
