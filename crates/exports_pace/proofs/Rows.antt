@@ -8,7 +8,8 @@ use lib.ListN.{length, length-map}
 use Rattle.refusals.specs.Refused.{room}
 use Rattle.rows_pace.specs.declared.Values.{Values}
 use Rattle.rows_pace.specs.declared.Values.the-variants.{CellOvervoltage, SlowDischarge}
-use Rattle.exports_rows.specs.Told.{codedAs, roomCode, codeOf, over, rowAfter, placed, joined}
+use Rattle.exports_parts.specs.Parts.{placed}
+use Rattle.exports_rows.specs.Told.{codedAs, roomCode, codeOf, over, rowAfter, joined}
 use Rattle.exports_rows.proofs.Placing.{total, Sizes, parts-told, parts-untold}
 use Rattle.exports_rows.proofs.Telling.{Tells}
 use Rattle.exports_pace.specs.Replies.{parts, valuesTold}

@@ -1,15 +1,12 @@
 // PACE's replies for other languages (`rt staticlib exports_pace`): numbers and slices only, each call safe with any input.
 // `specs/Replies.antt` says which number an answer goes out as, and at which place of the row each of its values stands.
 use analog_pace::Analog;
-use exports_rows::byte;
-use exports_rows::coded;
-use exports_rows::half;
 use exports_parts::put_i32;
-use exports_rows::put_numbers;
-use exports_rows::put_text;
 use exports_parts::put_u8;
 use exports_parts::put_u16;
-use exports_rows::signed_half;
+use exports_rows::coded;
+use exports_rows::put_numbers;
+use exports_rows::put_text;
 use records_pace::Answer;
 use records_pace::Reply;
 use records_pace::read_reply;
@@ -90,10 +87,10 @@ fn put_values(v: Values, row: &mut [i32]) -> u64
             delay_100ms,
         } => {
             let numbers = [
-                half(alarm_mv),
-                half(protect_mv),
-                half(release_mv),
-                byte(delay_100ms),
+                alarm_mv as i32,
+                protect_mv as i32,
+                release_mv as i32,
+                delay_100ms as i32,
             ];
             put_numbers(5, &numbers, row)
         }
@@ -102,7 +99,7 @@ fn put_values(v: Values, row: &mut [i32]) -> u64
             protect_a,
             delay_100ms,
         } => {
-            let numbers = [half(alarm_a), half(protect_a), byte(delay_100ms)];
+            let numbers = [alarm_a as i32, protect_a as i32, delay_100ms as i32];
             put_numbers(6, &numbers, row)
         }
     }
@@ -126,14 +123,14 @@ fn analog_numbers(a: Analog) -> [i32; 8]
     ensures { λ r. ⌜ r ≡ analogNumbers a ⌝ }
 {
     [
-        byte(a.cells),
-        byte(a.temperatures),
-        signed_half(a.current_10ma),
-        half(a.total_mv),
-        half(a.remaining_10mah),
-        half(a.full_10mah),
-        half(a.cycles),
-        half(a.design_10mah),
+        a.cells as i32,
+        a.temperatures as i32,
+        a.current_10ma as i32,
+        a.total_mv as i32,
+        a.remaining_10mah as i32,
+        a.full_10mah as i32,
+        a.cycles as i32,
+        a.design_10mah as i32,
     ]
 }
 
@@ -155,19 +152,19 @@ fn warning_numbers(w: Warnings) -> [i32; 14]
     ensures { λ r. ⌜ r ≡ warningNumbers w ⌝ }
 {
     [
-        byte(w.cells),
-        byte(w.temperatures),
-        byte(w.charge_current),
-        byte(w.total_voltage),
-        byte(w.discharge_current),
-        byte(w.protection1),
-        byte(w.protection2),
-        byte(w.system),
-        byte(w.configuration),
-        byte(w.fault),
-        byte(w.balance_high),
-        byte(w.balance_low),
-        byte(w.warning1),
-        byte(w.warning2),
+        w.cells as i32,
+        w.temperatures as i32,
+        w.charge_current as i32,
+        w.total_voltage as i32,
+        w.discharge_current as i32,
+        w.protection1 as i32,
+        w.protection2 as i32,
+        w.system as i32,
+        w.configuration as i32,
+        w.fault as i32,
+        w.balance_high as i32,
+        w.balance_low as i32,
+        w.warning1 as i32,
+        w.warning2 as i32,
     ]
 }

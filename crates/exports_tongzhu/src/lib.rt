@@ -1,7 +1,7 @@
 // Tongzhu's replies for other languages (`rt staticlib exports_tongzhu`): numbers and slices only, each call safe with any input.
 // `specs/Replies.antt` says which number an answer goes out as, and at which place of the row each of its values stands.
-use exports_rows::coded;
 use exports_parts::put_i32;
+use exports_rows::coded;
 use exports_rows::put_numbers;
 use flat_tongzhu::monitor2_numbers;
 use flat_tongzhu::monitor3_numbers;

@@ -1,61 +1,50 @@
--- `exports_pace::analog_numbers` meets its contract, number by number.
+-- `exports_pace::analog_numbers` meets its contract, number by number: each fits by what is known of the record.
 -- Assumes nothing.
-use mathlib.Core.Path.{_≡_, refl, _∙_}
+use mathlib.Core.Path.{refl}
 use mir.Syntax.{w16}
-use mir.Val.{toZ, ofZ}
-use Rattle.exports_rows.proofs.Same.{same}
+use Rattle.widths.proofs.Widening.{then, signed-fits, signed-then}
 use borrow.Author.Needs.{needs}
 use Rattle.exports_pace.proofs.analog_numbers.Statement.{statement}
 use Rattle.exports_pace.proofs.analog_numbers.Tie as tie
 
-byte-requires : tie.Need-byte-requires
-byte-requires c κs = search needs
+cast-t2 : tie.Need-cast-t2
+cast-t2 c = search needs
 
-byte-requires-2 : tie.Need-byte-requires-2
-byte-requires-2 c κs = search needs
+cast-t3 : tie.Need-cast-t3
+cast-t3 c = search needs
 
-signed-half-requires : tie.Need-signed-half-requires
-signed-half-requires c κs = search needs
+cast-t4 : tie.Need-cast-t4
+cast-t4 c = signed-fits w16 (c .before .before .before .before .args .a .«current_10ma») tt (record { sfits = c .struct-told .given .1 .1 .0 .1 })
 
-half-requires : tie.Need-half-requires
-half-requires c κs = search needs
+cast-t5 : tie.Need-cast-t5
+cast-t5 c = search needs
 
-half-requires-2 : tie.Need-half-requires-2
-half-requires-2 c κs = search needs
+cast-t6 : tie.Need-cast-t6
+cast-t6 c = search needs
 
-half-requires-3 : tie.Need-half-requires-3
-half-requires-3 c κs = search needs
+cast-t7 : tie.Need-cast-t7
+cast-t7 c = search needs
 
-half-requires-4 : tie.Need-half-requires-4
-half-requires-4 c κs = search needs
+cast-t8 : tie.Need-cast-t8
+cast-t8 c = search needs
 
-half-requires-5 : tie.Need-half-requires-5
-half-requires-5 c κs = search needs
+cast-t9 : tie.Need-cast-t9
+cast-t9 c = search needs
 
 returns : tie.Need-returns
 returns c =
-    let a = c .before .before .before .before .before .before .before .before .before .args .a in
-    let current-10ma : toZ w16 (ofZ w16 (a .«current_10ma»)) ≡ a .«current_10ma» = search needs in
-    same (c .before .before .before .before .before .before .before .before .byte .ok) (c .before .before .before .before .before .before .before .before .byte .ensures)
-    (same (c .before .before .before .before .before .before .before .byte2 .ok) (c .before .before .before .before .before .before .before .byte2 .ensures)
-    (same (c .before .before .before .before .before .signed-half .ok) (c .before .before .before .before .before .signed-half .ensures ∙ current-10ma)
-    (same (c .before .before .before .before .half .ok) (c .before .before .before .before .half .ensures)
-    (same (c .before .before .before .half2 .ok) (c .before .before .before .half2 .ensures)
-    (same (c .before .before .half3 .ok) (c .before .before .half3 .ensures)
-    (same (c .before .half4 .ok) (c .before .half4 .ensures)
-    (same (c .half5 .ok) (c .half5 .ensures)
+    let k = c .struct-known8 .given in
+    let current = c .before .before .before .before .before .struct-told .given .1 .1 .0 .1 in
+    then tt (k .0)
+    (then tt (k .1 .0)
+    (signed-then w16 _ tt (record { sfits = current })
+    (then tt (k .1 .1 .1 .0)
+    (then tt (k .1 .1 .1 .1 .0)
+    (then tt (k .1 .1 .1 .1 .1 .0)
+    (then tt (k .1 .1 .1 .1 .1 .1 .0)
+    (then tt (k .1 .1 .1 .1 .1 .1 .1 .0)
     refl)))))))
 
 pub analog-numbers-spec : {M : Type 1} → statement M
 analog-numbers-spec =
-    tie.close
-    (tie.spec
-    byte-requires
-    byte-requires-2
-    signed-half-requires
-    half-requires
-    half-requires-2
-    half-requires-3
-    half-requires-4
-    half-requires-5
-    returns)
+    tie.close (tie.spec cast-t2 cast-t3 cast-t4 cast-t5 cast-t6 cast-t7 cast-t8 cast-t9 returns)

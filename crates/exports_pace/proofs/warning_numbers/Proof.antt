@@ -1,87 +1,88 @@
--- `exports_pace::warning_numbers` meets its contract, number by number.
+-- `exports_pace::warning_numbers` meets its contract, number by number: each fits by what is known of the record.
 -- Assumes nothing.
 use mathlib.Core.Path.{refl}
-use Rattle.exports_rows.proofs.Same.{same}
+use Rattle.widths.proofs.Widening.{fits, then}
 use borrow.Author.Needs.{needs}
 use Rattle.exports_pace.proofs.warning_numbers.Statement.{statement}
 use Rattle.exports_pace.proofs.warning_numbers.Tie as tie
 
-byte-requires : tie.Need-byte-requires
-byte-requires c κs = search needs
+cast-t2 : tie.Need-cast-t2
+cast-t2 c = search needs
 
-byte-requires-2 : tie.Need-byte-requires-2
-byte-requires-2 c κs = search needs
+cast-t3 : tie.Need-cast-t3
+cast-t3 c = search needs
 
-byte-requires-3 : tie.Need-byte-requires-3
-byte-requires-3 c κs = search needs
+cast-t4 : tie.Need-cast-t4
+cast-t4 c = search needs
 
-byte-requires-4 : tie.Need-byte-requires-4
-byte-requires-4 c κs = search needs
+cast-t5 : tie.Need-cast-t5
+cast-t5 c = search needs
 
-byte-requires-5 : tie.Need-byte-requires-5
-byte-requires-5 c κs = search needs
+cast-t6 : tie.Need-cast-t6
+cast-t6 c = search needs
 
-byte-requires-6 : tie.Need-byte-requires-6
-byte-requires-6 c κs = search needs
+cast-t7 : tie.Need-cast-t7
+cast-t7 c = search needs
 
-byte-requires-7 : tie.Need-byte-requires-7
-byte-requires-7 c κs = search needs
+cast-t8 : tie.Need-cast-t8
+cast-t8 c = search needs
 
-byte-requires-8 : tie.Need-byte-requires-8
-byte-requires-8 c κs = search needs
+cast-t9 : tie.Need-cast-t9
+cast-t9 c = search needs
 
-byte-requires-9 : tie.Need-byte-requires-9
-byte-requires-9 c κs = search needs
+cast-t10 : tie.Need-cast-t10
+cast-t10 c = search needs
 
-byte-requires-10 : tie.Need-byte-requires-10
-byte-requires-10 c κs = search needs
+cast-t11 : tie.Need-cast-t11
+cast-t11 c = fits tt (c .struct-known10 .given .1 .1 .1 .1 .1 .1 .1 .1 .1 .0)
 
-byte-requires-11 : tie.Need-byte-requires-11
-byte-requires-11 c κs = search needs
+cast-t12 : tie.Need-cast-t12
+cast-t12 c = fits tt (c .struct-known11 .given .1 .1 .1 .1 .1 .1 .1 .1 .1 .1 .0)
 
-byte-requires-12 : tie.Need-byte-requires-12
-byte-requires-12 c κs = search needs
+cast-t13 : tie.Need-cast-t13
+cast-t13 c = fits tt (c .struct-known12 .given .1 .1 .1 .1 .1 .1 .1 .1 .1 .1 .1 .0)
 
-byte-requires-13 : tie.Need-byte-requires-13
-byte-requires-13 c κs = search needs
+cast-t14 : tie.Need-cast-t14
+cast-t14 c = fits tt (c .struct-known13 .given .1 .1 .1 .1 .1 .1 .1 .1 .1 .1 .1 .1 .0)
 
-byte-requires-14 : tie.Need-byte-requires-14
-byte-requires-14 c κs = search needs
+cast-t15 : tie.Need-cast-t15
+cast-t15 c = fits tt (c .struct-known14 .given .1 .1 .1 .1 .1 .1 .1 .1 .1 .1 .1 .1 .1 .0)
 
 returns : tie.Need-returns
 returns c =
-    same (c .before .before .before .before .before .before .before .before .before .before .before .before .before .byte .ok) (c .before .before .before .before .before .before .before .before .before .before .before .before .before .byte .ensures)
-    (same (c .before .before .before .before .before .before .before .before .before .before .before .before .byte2 .ok) (c .before .before .before .before .before .before .before .before .before .before .before .before .byte2 .ensures)
-    (same (c .before .before .before .before .before .before .before .before .before .before .before .byte3 .ok) (c .before .before .before .before .before .before .before .before .before .before .before .byte3 .ensures)
-    (same (c .before .before .before .before .before .before .before .before .before .before .byte4 .ok) (c .before .before .before .before .before .before .before .before .before .before .byte4 .ensures)
-    (same (c .before .before .before .before .before .before .before .before .before .byte5 .ok) (c .before .before .before .before .before .before .before .before .before .byte5 .ensures)
-    (same (c .before .before .before .before .before .before .before .before .byte6 .ok) (c .before .before .before .before .before .before .before .before .byte6 .ensures)
-    (same (c .before .before .before .before .before .before .before .byte7 .ok) (c .before .before .before .before .before .before .before .byte7 .ensures)
-    (same (c .before .before .before .before .before .before .byte8 .ok) (c .before .before .before .before .before .before .byte8 .ensures)
-    (same (c .before .before .before .before .before .byte9 .ok) (c .before .before .before .before .before .byte9 .ensures)
-    (same (c .before .before .before .before .byte10 .ok) (c .before .before .before .before .byte10 .ensures)
-    (same (c .before .before .before .byte11 .ok) (c .before .before .before .byte11 .ensures)
-    (same (c .before .before .byte12 .ok) (c .before .before .byte12 .ensures)
-    (same (c .before .byte13 .ok) (c .before .byte13 .ensures)
-    (same (c .byte14 .ok) (c .byte14 .ensures)
+    let k = c .struct-known14 .given in
+    then tt (k .0)
+    (then tt (k .1 .0)
+    (then tt (k .1 .1 .0)
+    (then tt (k .1 .1 .1 .0)
+    (then tt (k .1 .1 .1 .1 .0)
+    (then tt (k .1 .1 .1 .1 .1 .0)
+    (then tt (k .1 .1 .1 .1 .1 .1 .0)
+    (then tt (k .1 .1 .1 .1 .1 .1 .1 .0)
+    (then tt (k .1 .1 .1 .1 .1 .1 .1 .1 .0)
+    (then tt (k .1 .1 .1 .1 .1 .1 .1 .1 .1 .0)
+    (then tt (k .1 .1 .1 .1 .1 .1 .1 .1 .1 .1 .0)
+    (then tt (k .1 .1 .1 .1 .1 .1 .1 .1 .1 .1 .1 .0)
+    (then tt (k .1 .1 .1 .1 .1 .1 .1 .1 .1 .1 .1 .1 .0)
+    (then tt (k .1 .1 .1 .1 .1 .1 .1 .1 .1 .1 .1 .1 .1 .0)
     refl)))))))))))))
 
 pub warning-numbers-spec : {M : Type 1} → statement M
 warning-numbers-spec =
     tie.close
     (tie.spec
-    byte-requires
-    byte-requires-2
-    byte-requires-3
-    byte-requires-4
-    byte-requires-5
-    byte-requires-6
-    byte-requires-7
-    byte-requires-8
-    byte-requires-9
-    byte-requires-10
-    byte-requires-11
-    byte-requires-12
-    byte-requires-13
-    byte-requires-14
+    cast-t2
+    cast-t3
+    cast-t4
+    cast-t5
+    cast-t6
+    cast-t7
+    cast-t8
+    cast-t9
+    cast-t10
+    cast-t11
+    cast-t12
+    cast-t13
+    cast-t14
+    cast-t15
     returns)
