@@ -8,9 +8,9 @@ use native.Mathlib.Omega.{arith}
 use borrow.Author.Tests.{lt-ltb, le-ltb, eq-eqb, ne-eqb}
 use lib.ListN.{length, getD, take, drop}
 use Rattle.sums.specs.Sums.{total, closes}
-use Rattle.digits.specs.declared.Length.{Length}
-use Rattle.digits.specs.declared.Length.the-variants.{Is, Wrong}
-use Rattle.digits.specs.Lengths.{countOf}
+use Rattle.lengths_pace.specs.declared.Length.{Length}
+use Rattle.lengths_pace.specs.declared.Length.the-variants.{Is, Wrong}
+use Rattle.lengths_pace.specs.Lengths.{countOf}
 use Rattle.refusals.specs.Refused.{refusedWith, short, firstMark, lastMark, lengths, checksum, address, character}
 use Rattle.frames_pace.specs.declared.Frame.the-variants.{Whole, Refused}
 use Rattle.characters_pace.specs.Characters.{allHex, bytesIn, wordAt}

@@ -11,10 +11,10 @@ use Rattle.laws.specs.Firsts.{firsts}
 use Rattle.laws.proofs.Firsts.{listed}
 use Rattle.sums.specs.Sums.{total, closing, closes}
 use Rattle.sums.proofs.Closing.{closing-lt, test-closing, test-only}
-use Rattle.digits.specs.declared.Length.the-variants.{Is}
+use Rattle.lengths_pace.specs.declared.Length.the-variants.{Is}
 use Rattle.digits.specs.Hexes.{digitOf}
-use Rattle.digits.specs.Lengths.{lowDigits, lengthWord, countOf}
-use Rattle.digits.proofs.Counts.{count-reads-back, word-writes-back}
+use Rattle.lengths_pace.specs.Lengths.{lowDigits, lengthWord, countOf}
+use Rattle.lengths_pace.proofs.Counts.{count-reads-back, word-writes-back}
 use Rattle.numbers.specs.declared.Order.the-variants.{HighFirst}
 use Rattle.numbers.specs.Bytes.{bytesOf}
 use Rattle.numbers.proofs.Orders.{Bytes, written-reads-back, read-writes-back}

@@ -10,9 +10,9 @@ use lib.Dec.{ltb, eqb}
 use lib.ListN.{length, getD, take, drop}
 use Rattle.laws.proofs.Ladders.{past, into, both}
 use Rattle.sums.specs.Sums.{total, closes}
-use Rattle.digits.specs.declared.Length.{Length}
-use Rattle.digits.specs.declared.Length.the-variants.{Is, Wrong}
-use Rattle.digits.specs.Lengths.{countOf}
+use Rattle.lengths_pace.specs.declared.Length.{Length}
+use Rattle.lengths_pace.specs.declared.Length.the-variants.{Is, Wrong}
+use Rattle.lengths_pace.specs.Lengths.{countOf}
 use Rattle.refusals.specs.declared.Refusal.{Refusal}
 use Rattle.frames_pace.specs.declared.Frame.the-variants.{Whole, Refused}
 use Rattle.characters_pace.specs.Characters.{allHex, wordAt}

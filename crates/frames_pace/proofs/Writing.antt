@@ -12,8 +12,8 @@ use lib.Dec.{ltb}
 use Rattle.laws.proofs.Filling.{one-more, part-more, part-length}
 use Rattle.laws.proofs.Ladders.{past}
 use Rattle.sums.specs.Sums.{total, closing}
-use Rattle.digits.specs.declared.Length.the-variants.{Is, Wrong}
-use Rattle.digits.specs.Lengths.{wordOf, lengthWord}
+use Rattle.lengths_pace.specs.declared.Length.the-variants.{Is, Wrong}
+use Rattle.lengths_pace.specs.Lengths.{wordOf, lengthWord}
 use Rattle.numbers.specs.declared.Order.the-variants.{HighFirst}
 use Rattle.numbers.specs.Bytes.{bytesOf}
 use Rattle.characters_pace.specs.Characters.{hexed, hexAfter}

@@ -8,9 +8,9 @@ use lib.Dec.{ltb, eqb}
 use lib.ListN.{length, getD, take, drop}
 use Rattle.laws.specs.Choice.{pick}
 use Rattle.sums.specs.Sums.{total, closes}
-use Rattle.digits.specs.declared.Length.{Length}
-use Rattle.digits.specs.declared.Length.the-variants.{Is, Wrong}
-use Rattle.digits.specs.Lengths.{countOf}
+use Rattle.lengths_pace.specs.declared.Length.{Length}
+use Rattle.lengths_pace.specs.declared.Length.the-variants.{Is, Wrong}
+use Rattle.lengths_pace.specs.Lengths.{countOf}
 use Rattle.refusals.specs.Refused.{refusedWith, short, firstMark, lastMark, lengths, checksum, address, character}
 use Rattle.frames_pace.specs.declared.Frame.{Frame}
 use Rattle.frames_pace.specs.declared.Frame.the-variants.{Whole, Refused}

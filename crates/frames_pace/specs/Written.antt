@@ -6,7 +6,7 @@ use lib.Dec.{ltb}
 use lib.ListN.{length, take, drop}
 use Rattle.laws.specs.Choice.{pick}
 use Rattle.sums.specs.Sums.{total, closing}
-use Rattle.digits.specs.Lengths.{lengthWord}
+use Rattle.lengths_pace.specs.Lengths.{lengthWord}
 use Rattle.numbers.specs.declared.Order.the-variants.{HighFirst}
 use Rattle.numbers.specs.Bytes.{bytesOf}
 use Rattle.refusals.specs.declared.Written.{Written}

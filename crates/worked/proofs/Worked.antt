@@ -5,7 +5,7 @@ use mathlib.Core.Bool.{true}
 use Rattle.laws.specs.Firsts.{firsts}
 use Rattle.checks.specs.Crc.{shift, shifts, crcFrom, crcOf}
 use Rattle.sums.specs.Sums.{total}
-use Rattle.digits.specs.Lengths.{wordOf}
+use Rattle.lengths_pace.specs.Lengths.{wordOf}
 use Rattle.calendar.specs.Decimal.{bcdByte}
 use Rattle.calendar.specs.Dates.{leap, days, daysIn, realDate, realTime}
 use Rattle.frames_tongzhu.specs.Functions.{kindOf}

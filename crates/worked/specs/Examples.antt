@@ -7,9 +7,9 @@ use lib.Dec.{eqb}
 use lib.IntN.{ℤ, pos, negsuc}
 use Rattle.checks.specs.Crc.{crcOf}
 use Rattle.sums.specs.Sums.{total, closing}
-use Rattle.digits.specs.declared.Length.{Length}
-use Rattle.digits.specs.declared.Length.the-variants as lengths
-use Rattle.digits.specs.Lengths.{wordOf}
+use Rattle.lengths_pace.specs.declared.Length.{Length}
+use Rattle.lengths_pace.specs.declared.Length.the-variants as lengths
+use Rattle.lengths_pace.specs.Lengths.{wordOf}
 use Rattle.calendar.specs.Dates.{realDate}
 use Rattle.requests_tongzhu.specs.declared.Time.{Time}
 use Rattle.requests_tongzhu.specs.declared.Request.the-variants.{Ask, SetTime}

@@ -5,8 +5,8 @@ use Prim.Native.Nat.{ℕ, _-_}
 use lib.ListN.{length}
 use borrow.Author.Tests.{not-true, not-false}
 use Rattle.sums.specs.Sums.{total, closes}
-use Rattle.digits.specs.declared.Length.the-variants.{Is}
-use Rattle.digits.specs.Lengths.{countOf}
+use Rattle.lengths_pace.specs.declared.Length.the-variants.{Is}
+use Rattle.lengths_pace.specs.Lengths.{countOf}
 use Rattle.frames_pace.specs.declared.Frame.the-variants.{Whole, Refused}
 use Rattle.characters_pace.specs.Characters.{wordAt}
 use Rattle.frames_pace.specs.Frame.{headOf, coveredOf, checkOf}

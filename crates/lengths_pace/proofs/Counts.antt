@@ -8,8 +8,8 @@ use lib.Dec.{lit<}
 use Rattle.laws.specs.Choice.{pick}
 use Rattle.sums.specs.Sums.{closing, closes}
 use Rattle.sums.proofs.Closing.{closing-lt, test-closing, test-only}
-use Rattle.digits.specs.declared.Length.the-variants.{Is, Wrong}
-use Rattle.digits.specs.Lengths.{lowDigits, lengthWord, countOf}
+use Rattle.lengths_pace.specs.declared.Length.the-variants.{Is, Wrong}
+use Rattle.lengths_pace.specs.Lengths.{lowDigits, lengthWord, countOf}
 
 -- a word is its top digit and the rest: the low digits of the word are those of the rest
 module _ (d n : ℕ) (hd : d < 16) (hn : n < 4096) where

@@ -4,8 +4,8 @@ use Prim.Native.Nat.{ℕ, _+_, _*_, _/_, _%_}
 use lib.Dec.{ltb}
 use Rattle.laws.specs.Choice.{pick}
 use Rattle.sums.specs.Sums.{closing, closes}
-use Rattle.digits.specs.declared.Length.{Length}
-use Rattle.digits.specs.declared.Length.the-variants.{Is, Wrong}
+use Rattle.lengths_pace.specs.declared.Length.{Length}
+use Rattle.lengths_pace.specs.declared.Length.the-variants.{Is, Wrong}
 
 -- the sum of the low three hex digits
 abbrev pub lowDigits : ℕ → ℕ

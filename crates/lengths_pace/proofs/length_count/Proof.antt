@@ -1,10 +1,10 @@
--- `digits::length_count` meets its contract: each way out rewrites with the test that led there.
+-- `lengths_pace::length_count` meets its contract: each way out rewrites with the test that led there.
 -- Assumes nothing.
 use borrow.Author.Tests.{eq-eqb, ne-eqb}
-use Rattle.digits.specs.Lengths.{countOf}
+use Rattle.lengths_pace.specs.Lengths.{countOf}
 use borrow.Author.Needs.{needs}
-use Rattle.digits.proofs.length_count.Statement.{statement}
-use Rattle.digits.proofs.length_count.Tie as tie
+use Rattle.lengths_pace.proofs.length_count.Statement.{statement}
+use Rattle.lengths_pace.proofs.length_count.Tie as tie
 
 add-sum : tie.Need-add-sum
 add-sum c = search needs

@@ -1,10 +1,10 @@
--- `digits::length_word` meets its contract: each way out rewrites with the test that led there.
+-- `lengths_pace::length_word` meets its contract: each way out rewrites with the test that led there.
 -- Assumes nothing.
 use borrow.Author.Tests.{lt-ltb, le-ltb}
-use Rattle.digits.specs.Lengths.{wordOf}
+use Rattle.lengths_pace.specs.Lengths.{wordOf}
 use borrow.Author.Needs.{needs}
-use Rattle.digits.proofs.length_word.Statement.{statement}
-use Rattle.digits.proofs.length_word.Tie as tie
+use Rattle.lengths_pace.proofs.length_word.Statement.{statement}
+use Rattle.lengths_pace.proofs.length_word.Tie as tie
 
 add-sum : tie.Need-add-sum
 add-sum c = search needs
