@@ -3,11 +3,11 @@ use crate::text;
 use crate::words;
 use crate::words::Call;
 use crate::words::Fault;
+use restore_jobs::Job;
+use restore_jobs::Opening;
+use restore_jobs::Phase;
 use restore_pathfinder::Answer;
-use restore_pathfinder::Job;
-use restore_pathfinder::Opening;
 use restore_pathfinder::Outcome;
-use restore_pathfinder::Phase;
 use restore_pathfinder::Step;
 
 // The job, once one was opened.
@@ -113,7 +113,7 @@ fn open_on(row: &[i32], n: usize, m: usize, out: &mut [u8], at: usize, kept: Kep
     if m < n {
         return Said { at, kept };
     }
-    let o = restore_pathfinder::open(&row[0..n], &row[n..m]);
+    let o = restore_jobs::open(&row[0..n], &row[n..m]);
     let opening = o.opening;
     let job = o.job;
     match opening {
@@ -192,7 +192,7 @@ fn go_on(
                 out,
                 at,
                 b"ok left #\n",
-                text::from_usize(restore_pathfinder::left(job)),
+                text::from_usize(restore_jobs::left(job)),
             ),
             kept,
         },
