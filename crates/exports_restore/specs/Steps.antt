@@ -3,10 +3,10 @@
 -- Assumes nothing.
 use Prim.Native.Nat.{ℕ}
 use mathlib.Core.List.{List}
-use Rattle.restore_pathfinder.specs.declared.Job.{Job}
-use Rattle.restore_pathfinder.specs.declared.Opening.{Opening}
-use Rattle.restore_pathfinder.specs.declared.Opening.the-variants as opening
-use Rattle.restore_pathfinder.specs.declared.Opened.{Opened}
+use Rattle.restore_jobs.specs.declared.Job.{Job}
+use Rattle.restore_jobs.specs.declared.Opening.{Opening}
+use Rattle.restore_jobs.specs.declared.Opening.the-variants as opening
+use Rattle.restore_jobs.specs.declared.Opened.{Opened}
 use Rattle.restore_pathfinder.specs.declared.Step.{Step}
 use Rattle.restore_pathfinder.specs.declared.Step.the-variants as step
 use Rattle.restore_pathfinder.specs.declared.Stepped.{Stepped}

@@ -1,13 +1,13 @@
 // The night restore for other languages (`rt staticlib exports_restore`): the job lives in bytes that the caller lends, 262 of them, and each call
-// is one of `restore_pathfinder` on the job in them (`restore_bytes`). `specs/Steps.antt` says what each call answers.
+// is one of `restore_jobs` or `restore_pathfinder` on the job in them (`restore_bytes`). `specs/Steps.antt` says what each call answers.
 use exports_rows::coded;
 use restore_bytes::is_job;
 use restore_bytes::job_of;
 use restore_bytes::put_job;
+use restore_jobs::Opened;
+use restore_jobs::Opening;
 use restore_pathfinder::Answer;
 use restore_pathfinder::Heard;
-use restore_pathfinder::Opened;
-use restore_pathfinder::Opening;
 use restore_pathfinder::Outcome;
 use restore_pathfinder::Step;
 use restore_pathfinder::Stepped;
@@ -15,7 +15,8 @@ ghost use mathlib.Core.Path.{_≡_};
 ghost use lib.ListN.{length};
 ghost use Rattle.laws.specs.Choice.{pick};
 ghost use Rattle.refusals.specs.Refused.{shape};
-ghost use Rattle.restore_pathfinder.specs.Calls.{openOf, nextOf, roomOf, heardOf, leftOf};
+ghost use Rattle.restore_jobs.specs.Jobs.{openOf, leftOf};
+ghost use Rattle.restore_pathfinder.specs.Calls.{nextOf, roomOf, heardOf};
 ghost use Rattle.exports_rows.specs.Told.{codedAs};
 ghost use Rattle.restore_bytes.specs.Jobs.{isJob, sized, jobOf};
 ghost use Rattle.exports_restore.specs.Steps.{openedCode, openedJob, steppedCode, steppedJob, heardCode, heardJob};
@@ -35,7 +36,7 @@ pub extern "C" fn tracksaffron_restore_open(present: &[i32], wanted: &[i32], job
     if job.len() != JOB {
         return NO_JOB;
     }
-    opened(restore_pathfinder::open(present, wanted), job)
+    opened(restore_jobs::open(present, wanted), job)
 }
 
 // The next write of the job as a frame in lent room.
@@ -71,7 +72,7 @@ pub extern "C" fn tracksaffron_restore_left(job: &[u8]) -> u64
     ensures { λ r. ⌜ r ≡ pick (isJob (now (job .entry))) (codedAs 1 (leftOf (jobOf (now (job .entry))))) shape ⌝ }
 {
     if is_job(job) {
-        coded(1, restore_pathfinder::left(job_of(job)))
+        coded(1, restore_jobs::left(job_of(job)))
     } else {
         NO_JOB
     }

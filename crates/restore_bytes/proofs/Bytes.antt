@@ -10,7 +10,7 @@ use lib.ListN.{length, getD, take, drop, length-append, take-append-drop, drop-o
 use lib.Seq.{take-suc, take-at, take-length, length-take-le, drop-drop}
 use borrow.Rule.Slice.PartMut.{putMid}
 use Rattle.laws.proofs.Filling.{part-more}
-use Rattle.restore_pathfinder.specs.declared.Job.{Job}
+use Rattle.restore_jobs.specs.declared.Job.{Job}
 use Rattle.restore_bytes.specs.Jobs.{valueBytes, wordBytes, wordsPut, phaseBytes, jobBytes}
 
 pub bytes-length : (vs : List ℤ) → length (wordBytes vs) ≡ 4 * length vs

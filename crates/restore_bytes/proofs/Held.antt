@@ -8,8 +8,8 @@ use lib.IntN.{ℤ}
 use lib.ListN.{getD, drop}
 use lib.Seq.{getD-drop}
 use Rattle.records_pathfinder.specs.Words.{wordOf, wordAt, words}
-use Rattle.restore_pathfinder.specs.declared.Phase.{Phase}
-use Rattle.restore_pathfinder.specs.declared.Job.{Job}
+use Rattle.restore_jobs.specs.declared.Phase.{Phase}
+use Rattle.restore_jobs.specs.declared.Job.{Job}
 use Rattle.restore_bytes.specs.Jobs.{wordIn, phaseIn, jobOf}
 
 -- word i of the bytes from a place on

@@ -13,9 +13,9 @@ use lib.ListN.{length, getD, drop, length-append}
 use lib.Seq.{drop-at, getD-at, getD-append-add}
 use Rattle.records_pathfinder.specs.Words.{wordOf, words}
 use Rattle.requests_pathfinder.proofs.RoundTrip.{value-reads-back}
-use Rattle.restore_pathfinder.specs.declared.Phase.{Phase}
-use Rattle.restore_pathfinder.specs.declared.Phase.the-variants.{Ready, Waiting, Stopped}
-use Rattle.restore_pathfinder.specs.declared.Job.{Job}
+use Rattle.restore_jobs.specs.declared.Phase.{Phase}
+use Rattle.restore_jobs.specs.declared.Phase.the-variants.{Ready, Waiting, Stopped}
+use Rattle.restore_jobs.specs.declared.Job.{Job}
 use Rattle.restore_bytes.specs.Jobs.{wordBytes, phaseByte, registerByte, phaseBytes, jobBytes, isJob, phaseIn, jobOf}
 use Rattle.restore_bytes.proofs.Bytes.{bytes-length}
 use Rattle.restore_bytes.proofs.Held.{job-is}

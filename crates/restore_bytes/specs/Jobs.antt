@@ -12,9 +12,9 @@ use Rattle.numbers.specs.declared.Order.the-variants.{LowFirst}
 use Rattle.numbers.specs.Bytes.{bytesOf}
 use Rattle.signs.specs.Signed.{bitsOf}
 use Rattle.records_pathfinder.specs.Words.{wordOf, words}
-use Rattle.restore_pathfinder.specs.declared.Phase.{Phase}
-use Rattle.restore_pathfinder.specs.declared.Phase.the-variants.{Ready, Waiting, Stopped}
-use Rattle.restore_pathfinder.specs.declared.Job.{Job}
+use Rattle.restore_jobs.specs.declared.Phase.{Phase}
+use Rattle.restore_jobs.specs.declared.Phase.the-variants.{Ready, Waiting, Stopped}
+use Rattle.restore_jobs.specs.declared.Job.{Job}
 
 -- ---- written
 

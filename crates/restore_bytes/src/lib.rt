@@ -3,8 +3,8 @@
 use numbers::Order;
 use numbers::bytes32;
 use records_pathfinder::word;
-use restore_pathfinder::Job;
-use restore_pathfinder::Phase;
+use restore_jobs::Job;
+use restore_jobs::Phase;
 use signs::bits32;
 ghost use mathlib.Core.Path.{_≡_};
 ghost use Prim.Native.Nat.{_+_, _*_, _<_, _≤_};

@@ -1,5 +1,5 @@
--- The ways out of each call, each from the facts that the code has there; in order: open, next, reply.
--- A refused opening by its verdict; next and reply by the phase, then by what the machine asks or hears. Assumes nothing.
+-- The ways out of next and reply, each from the facts that the code has there: by the phase, then by what the machine asks or hears.
+-- Assumes nothing.
 use mathlib.Core.Path.{_≡_, refl, sym, ap, _∙_}
 use mathlib.Core.Bool.{Bool, true, false}
 use mathlib.Core.List.{List, [], _∷_}
@@ -19,32 +19,20 @@ use Rattle.requests_pathfinder.specs.declared.Request.the-variants.{Write}
 use Rattle.requests_pathfinder.specs.Requests.{sentAs, roomAfter}
 use Rattle.restore_order.specs.Slots.{slots, at, writes, put}
 use Rattle.restore_order.specs.Machine as M
-use Rattle.restore_order.specs.Opening.{pathfinder, Opened, opened, unopened, opening}
-use Rattle.restore_opening.specs.declared.Verdict.the-variants.{Refused as NotAccepted}
 use Rattle.restore_rules.specs.declared.First.the-variants.{At, Nothing}
 use Rattle.restore_rules.specs.Rules.{firstOf}
-use Rattle.restore_opening.specs.Verdicts.{verdictOf}
-use Rattle.restore_pathfinder.specs.declared.Phase.{Phase}
-use Rattle.restore_pathfinder.specs.declared.Phase.the-variants.{Ready, Waiting, Stopped}
-use Rattle.restore_pathfinder.specs.declared.Job.{Job}
+use Rattle.restore_jobs.specs.declared.Phase.{Phase}
+use Rattle.restore_jobs.specs.declared.Phase.the-variants.{Ready, Waiting, Stopped}
+use Rattle.restore_jobs.specs.declared.Job.{Job}
 use Rattle.restore_pathfinder.specs.declared.Step.the-variants.{Done, Refused as NoStep}
 use Rattle.restore_pathfinder.specs.declared.Stepped.{Stepped}
 use Rattle.restore_pathfinder.specs.declared.Outcome.the-variants.{Written as Marked, Failure}
 use Rattle.restore_pathfinder.specs.declared.Answer.{Answer}
 use Rattle.restore_pathfinder.specs.declared.Answer.the-variants.{Taken, Refused}
 use Rattle.restore_pathfinder.specs.declared.Heard.{Heard}
-use Rattle.restore_pathfinder.specs.Calls.{phaseOf, machine, openedAs, openOf, sentOf, stepFor, nextOf, roomFor, roomOf, answerOf, readAs, heardAs, heardOf}
-use Rattle.restore_pathfinder.proofs.Phase.{the-type}
-
--- ---- open
-
-module _ (o w : List ℤ) where
-  pub is-refused : (why : Refusal) → NotAccepted why ≡ verdictOf (opening pathfinder o w) → openedAs (unopened why) ≡ openOf o w
-  is-refused why e = go (opening pathfinder o w) e
-    where
-      go : (x : Opened) → NotAccepted why ≡ verdictOf x → openedAs (unopened why) ≡ openedAs x
-      go (opened m) q = let z : _≡_ {A = ℕ} 0 1 = cc in absurd (omega arith)
-      go (unopened n) q = let h : why ≡ n = cc in rw h
+use Rattle.restore_jobs.specs.Jobs.{phaseOf, machine}
+use Rattle.restore_pathfinder.specs.Calls.{sentOf, stepFor, nextOf, roomFor, roomOf, answerOf, readAs, heardAs, heardOf}
+use Rattle.restore_jobs.proofs.Phase.{the-type}
 
 -- ---- next
 

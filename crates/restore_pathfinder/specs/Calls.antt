@@ -1,9 +1,8 @@
--- What each call of a restore gives (01, Restore): a step of the machine of `restore_order` on the job, and the step as this crate's types say it.
+-- What next and reply give (01, Restore): a step of the machine of `restore_order` on the job, and the step as this crate's types say it.
 -- Number and values of each case stand here: a frame's bytes are those that the request writer gives for request 0E.
 use mathlib.Core.List.{List}
 use Prim.Native.Nat.{ℕ}
-use lib.IntN.{ℤ, pos}
-use lib.ListN.{length, replicate}
+use lib.ListN.{length}
 use Rattle.refusals.specs.declared.Written.{Written}
 use Rattle.refusals.specs.declared.Written.the-variants.{Frame as HasFrame, Refused as NoFrame}
 use Rattle.refusals.specs.Refused.{refusedWith, request}
@@ -14,51 +13,14 @@ use Rattle.requests_pathfinder.specs.declared.Request.the-variants.{Write}
 use Rattle.requests_pathfinder.specs.Requests.{sentAs, roomAfter}
 use Rattle.restore_order.specs.Slots.{slots}
 use Rattle.restore_order.specs.Machine as M
-use Rattle.restore_order.specs.Opening as O
-use Rattle.restore_pathfinder.specs.declared.Phase.{Phase}
-use Rattle.restore_pathfinder.specs.declared.Phase.the-variants.{Ready, Waiting, Stopped}
-use Rattle.restore_pathfinder.specs.declared.Job.{Job}
-use Rattle.restore_pathfinder.specs.declared.Opening.the-variants.{Accepted, Refused as NotOpened}
-use Rattle.restore_pathfinder.specs.declared.Opened.{Opened}
+use Rattle.restore_jobs.specs.declared.Job.{Job}
+use Rattle.restore_jobs.specs.Jobs.{phaseOf, machine, held}
 use Rattle.restore_pathfinder.specs.declared.Step.the-variants.{Frame, Done, Refused as NoStep}
 use Rattle.restore_pathfinder.specs.declared.Stepped.{Stepped}
 use Rattle.restore_pathfinder.specs.declared.Outcome.the-variants.{Written as Marked, Failure}
 use Rattle.restore_pathfinder.specs.declared.Answer.{Answer}
 use Rattle.restore_pathfinder.specs.declared.Answer.the-variants.{Taken, Refused}
 use Rattle.restore_pathfinder.specs.declared.Heard.{Heard}
-
--- ---- the job
-
--- as the machine has it
-abbrev pub phaseOf : Phase → M.Phase
-phaseOf Ready = M.ready
-phaseOf (Waiting r) = M.waiting r
-phaseOf Stopped = M.stopped
-
-abbrev pub machine : Job → M.Job
-machine j = M.jobOf (j .present) (j .wanted) (phaseOf (j .phase))
-
--- and back
-abbrev pub heldPhase : M.Phase → Phase
-heldPhase M.ready = Ready
-heldPhase (M.waiting r) = Waiting r
-heldPhase M.stopped = Stopped
-
-abbrev pub held : M.Job → Job
-held m = record { present = m .present; wanted = m .wanted; phase = heldPhase (m .phase) }
-
--- ---- open
-
--- the job that comes with a refusal: nothing is wanted, and nothing goes on
-abbrev pub noJob : Job
-noJob = record { present = replicate 50 (pos 0); wanted = replicate 15 (pos 0); phase = Stopped }
-
-abbrev pub openedAs : O.Opened → Opened
-openedAs (O.opened m) = record { opening = Accepted; job = held m }
-openedAs (O.unopened why) = record { opening = NotOpened why; job = noJob }
-
-abbrev pub openOf : List ℤ → List ℤ → Opened
-openOf o w = openedAs (O.opening O.pathfinder o w)
 
 -- ---- next
 
@@ -109,8 +71,3 @@ heardAs j a = record { answer = answerOf (M.heard (phaseOf (j .phase)) a); job =
 
 abbrev pub heardOf : Job → List ℕ → Heard
 heardOf j s = heardAs j (readAs s)
-
--- ---- left
-
-abbrev pub leftOf : Job → ℕ
-leftOf j = M.left 15 (machine j)

@@ -1,47 +1,21 @@
-// The night restore of the Pathfinder's settings 0 to 14 (01, Restore): open, next, reply, left. A job goes in by value and comes back by value.
-// Each call is one step of the small machine of `restore_order`, about which demand 3 is proved; next's write goes out as a frame of request 0E.
+// The night restore of the Pathfinder's settings 0 to 14 (01, Restore): next and reply, the two calls that speak with the pack, on a job of
+// `restore_jobs`. Each is one step of the small machine of `restore_order`, about which demand 3 is proved; next's write goes out as a frame of
+// request 0E.
+use records_pathfinder::Reply;
 use records_pathfinder::read_reply;
 use refusals::Refusal;
 use refusals::Written;
 use refusals::refuse;
-use requests_pathfinder::Request;
-use requests_pathfinder::write_request;
-use restore_opening::Verdict;
-use restore_opening::judge;
+use requests_pathfinder::write_set;
+use restore_jobs::Job;
+use restore_jobs::Phase;
 use restore_rules::First;
-use restore_rules::count_left;
 use restore_rules::first_write;
 ghost use mathlib.Core.Path.{_≡_};
 ghost use lib.ListN.{length};
 ghost use Rattle.refusals.specs.Refused.{refusedWith};
 ghost use Rattle.restore_order.specs.Slots.{at, put};
-ghost use Rattle.restore_order.specs.Opening.{unopened};
-ghost use Rattle.restore_pathfinder.specs.Calls.{openedAs, openOf, sentOf, nextOf, roomOf, answerOf, readAs, heardOf, leftOf};
-
-// Between two frames, waiting for the reply to the write of one register, or stopped by a device failure.
-pub enum Phase {
-    Ready,
-    Waiting(u8),
-    Stopped,
-}
-
-// A restore: its picture of the pack's words, the wanted values, and the phase.
-pub struct Job {
-    pub present: [i32; 50],
-    pub wanted: [i32; 15],
-    pub phase: Phase,
-}
-
-pub enum Opening {
-    Accepted,
-    Refused(Refusal),
-}
-
-// What opening gives. A refusal comes with a job that is stopped, and keeps the caller's earlier one as it is.
-pub struct Opened {
-    pub opening: Opening,
-    pub job: Job,
-}
+ghost use Rattle.restore_pathfinder.specs.Calls.{sentOf, nextOf, roomOf, decodedOf, answerOf, readAs, heardOf};
 
 pub enum Step {
     // A frame of so many bytes stands at the front of the room; its reply is due.
@@ -75,27 +49,6 @@ pub struct Heard {
     pub job: Job,
 }
 
-// Opens a restore of a pack that holds the 50 words `present`, towards the 15 values `wanted`.
-pub fn open(present: &[i32], wanted: &[i32]) -> Opened
-    ensures { λ r. ⌜ r ≡ openOf (now (present .entry)) (now (wanted .entry)) ⌝ }
-{
-    if let Verdict::Refused(why) = judge(present, wanted) {
-        return not_opened(why);
-    }
-    let mut words = [0i32; 50];
-    let mut values = [0i32; 15];
-    copy(present, &mut words);
-    copy(wanted, &mut values);
-    Opened {
-        opening: Opening::Accepted,
-        job: Job {
-            present: words,
-            wanted: values,
-            phase: Phase::Ready,
-        },
-    }
-}
-
 // The next write as a frame in lent room; bytes after it keep their contents, and so does all of the room where no frame goes out.
 pub fn next(job: Job, out: &mut [u8]) -> Stepped
     ensures answer { λ r. ⌜ r ≡ nextOf job (length (now (out .entry))) ⌝ }
@@ -117,7 +70,7 @@ pub fn next(job: Job, out: &mut [u8]) -> Stepped
         return declined(job, refusals::ROOM);
     }
     let value = value_of(wanted, register);
-    let written = write_request(Request::Write { register, value }, out);
+    let written = write_set(register, value, out);
     let waits = Job {
         present,
         wanted,
@@ -151,42 +104,6 @@ pub fn reply(job: Job, s: &[u8]) -> Heard
             answer,
             job: stopped(job),
         },
-    }
-}
-
-// How many settings differ from wanted in the job's picture.
-pub fn left(job: Job) -> usize
-    ensures { λ r. ⌜ r ≡ leftOf job ⌝ }
-{
-    let present = job.present;
-    let wanted = job.wanted;
-    count_left(&present, &wanted)
-}
-
-// ---- opening
-
-fn not_opened(why: Refusal) -> Opened
-    ensures { λ r. ⌜ r ≡ openedAs (unopened why) ⌝ }
-{
-    Opened {
-        opening: Opening::Refused(why),
-        job: Job {
-            present: [0i32; 50],
-            wanted: [0i32; 15],
-            phase: Phase::Stopped,
-        },
-    }
-}
-
-fn copy(from: &[i32], to: &mut [i32])
-    requires { ⌜ length (now from) ≡ length (now to) ⌝ }
-    ensures { λ _. ⌜ now (to .exit) ≡ now (from .entry) ⌝ }
-{
-    let mut i: usize = 0;
-    while i < from.len() {
-        let v = from[i];
-        to[i] = v;
-        i += 1;
     }
 }
 
@@ -230,13 +147,18 @@ fn decode(s: &[u8]) -> Answer
 {
     let mut row = [0i32; 0];
     let mut name = [0u8; 0];
-    let decoded = read_reply(0x0E, s, &mut row, &mut name);
+    answer_of(read_reply(0x0E, s, &mut row, &mut name))
+}
+
+fn answer_of(decoded: Reply) -> Answer
+    ensures { λ r. ⌜ r ≡ answerOf (decodedOf decoded) ⌝ }
+{
     match decoded {
-        records_pathfinder::Reply::Words(_) => Answer::Refused(refuse(refusals::REQUEST)),
-        records_pathfinder::Reply::Name(_) => Answer::Refused(refuse(refusals::REQUEST)),
-        records_pathfinder::Reply::Written => Answer::Taken(Outcome::Written),
-        records_pathfinder::Reply::Failure(code) => Answer::Taken(Outcome::Failure(code)),
-        records_pathfinder::Reply::Refused(why) => Answer::Refused(why),
+        Reply::Words(_) => Answer::Refused(refuse(refusals::REQUEST)),
+        Reply::Name(_) => Answer::Refused(refuse(refusals::REQUEST)),
+        Reply::Written => Answer::Taken(Outcome::Written),
+        Reply::Failure(code) => Answer::Taken(Outcome::Failure(code)),
+        Reply::Refused(why) => Answer::Refused(why),
     }
 }
 

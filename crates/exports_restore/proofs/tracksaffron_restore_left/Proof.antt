@@ -2,7 +2,7 @@
 -- Assumes nothing.
 use mathlib.Core.Path.{_≡_, refl, sym, ap, _∙_}
 use mathlib.Core.Bool.{true, false}
-use Rattle.restore_pathfinder.specs.Calls.{leftOf}
+use Rattle.restore_jobs.specs.Jobs.{leftOf}
 use Rattle.exports_rows.specs.Told.{codedAs}
 use Rattle.restore_bytes.specs.Jobs.{isJob}
 use borrow.Author.Needs.{needs}

@@ -1,15 +1,11 @@
--- `decode` meets its contract. Each arm by the decoded reply that it is for, and what the reader ensures of it.
+-- `decode` meets its contract. What the decoded reply says, and what the reader ensures of it.
 -- Assumes nothing.
-use mathlib.Core.Path.{sym, ap, _∙_}
-use borrow.Author.Needs.{needs}
+use mathlib.Core.Path.{ap, _∙_}
 use Rattle.records_pathfinder.specs.declared.Reply.{Reply}
-use Rattle.restore_pathfinder.specs.declared.Answer.{Answer}
 use Rattle.restore_pathfinder.specs.Calls.{decodedOf, answerOf}
+use borrow.Author.Needs.{needs}
 use Rattle.restore_pathfinder.proofs.decode.Statement.{statement}
 use Rattle.restore_pathfinder.proofs.decode.Tie as tie
-
-abbrev answer : Reply → Answer
-answer r = answerOf (decodedOf r)
 
 slice-aggregate-read-reply : tie.Need-slice-aggregate-read-reply
 slice-aggregate-read-reply c = search needs
@@ -20,43 +16,11 @@ slice-aggregate-read-reply-2 c = search needs
 read-reply-requires : tie.Need-read-reply-requires
 read-reply-requires c κs = search needs
 
-enum-told : tie.Need-enum-told
-enum-told c = search needs
-
-refuse-requires : tie.Need-refuse-requires
-refuse-requires c κs = search needs
-
-enum-told-2 : tie.Need-enum-told-2
-enum-told-2 c = search needs
-
-refuse-requires-2 : tie.Need-refuse-requires-2
-refuse-requires-2 c κs = search needs
-
-enum-told-3 : tie.Need-enum-told-3
-enum-told-3 c = search needs
-
-enum-known-decoded : tie.Need-enum-known-decoded
-enum-known-decoded c = search needs
-
-enum-known-decoded-2 : tie.Need-enum-known-decoded-2
-enum-known-decoded-2 c = search needs
+answer-of-requires : tie.Need-answer-of-requires
+answer-of-requires c κs = search needs
 
 returns : tie.Need-returns
-returns c =
-    rw (c .refuse .ensures) (ap answer (sym (c .before .enum-told .given .1) ∙ c .before .before .before .before .before .read-reply .ensures .0))
-
-returns-2 : tie.Need-returns-2
-returns-2 c =
-    rw (c .refuse2 .ensures) (ap answer (sym (c .before .enum-told2 .given .1) ∙ c .before .before .before .before .before .read-reply .ensures .0))
-
-returns-3 : tie.Need-returns-3
-returns-3 c = ap answer (sym (c .enum-told3 .given .1) ∙ c .before .before .before .before .read-reply .ensures .0)
-
-returns-4 : tie.Need-returns-4
-returns-4 c = ap answer (sym (c .before .decoded .given .1) ∙ c .before .before .before .before .before .read-reply .ensures .0)
-
-returns-5 : tie.Need-returns-5
-returns-5 c = ap answer (sym (c .before .decoded2 .given .1) ∙ c .before .before .before .before .before .read-reply .ensures .0)
+returns c = c .answer-of .ensures ∙ ap (λ (r : Reply). answerOf (decodedOf r)) (c .before .before .before .read-reply .ensures .0)
 
 pub decode-spec : {M : Type 1} → statement M
 decode-spec =
@@ -65,15 +29,5 @@ decode-spec =
     slice-aggregate-read-reply
     slice-aggregate-read-reply-2
     read-reply-requires
-    enum-told
-    refuse-requires
-    enum-told-2
-    refuse-requires-2
-    enum-told-3
-    enum-known-decoded
-    enum-known-decoded-2
-    returns
-    returns-2
-    returns-3
-    returns-4
-    returns-5)
+    answer-of-requires
+    returns)

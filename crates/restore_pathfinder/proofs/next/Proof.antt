@@ -56,8 +56,8 @@ returns-3 c =
 value-of-requires : tie.Need-value-of-requires
 value-of-requires c κs = search needs
 
-write-request-requires : tie.Need-write-request-requires
-write-request-requires c κs = search needs
+write-set-requires : tie.Need-write-set-requires
+write-set-requires c κs = search needs
 
 sent-requires : tie.Need-sent-requires
 sent-requires c κs = search needs
@@ -75,13 +75,13 @@ returns-4 c =
     let a = t .before .before .before .args in
     let r = g .register .given .0 .0 in
     let e : toZ w32 (ofZ w32 (v .value-of .result)) ≡ at (a .job .wanted) r = from-bits (v .value-of .result) (v .value-of .ok) ∙ v .value-of .ensures in
-    let answer : x .write-request .result ≡ sentAs (Write r (at (a .job .wanted) r)) (length (a .out .now)) =
-    x .write-request .ensures .0 ∙ ap (λ (z : ℤ). sentAs (Write r z) (length (a .out .now))) e in
-    let room : x .write-request .last .1 .0 ≡ roomAfter (x .write-request .result) (Write r (at (a .job .wanted) r)) (a .out .now) =
-    x .write-request .ensures .1 ∙ ap (λ (z : ℤ). roomAfter (x .write-request .result) (Write r z) (a .out .now)) e in
+    let answer : x .write-set .result ≡ sentAs (Write r (at (a .job .wanted) r)) (length (a .out .now)) =
+    x .write-set .ensures .0 ∙ ap (λ (z : ℤ). sentAs (Write r z) (length (a .out .now))) e in
+    let room : x .write-set .last .1 .1 .0 ≡ roomAfter (x .write-set .result) (Write r (at (a .job .wanted) r)) (a .out .now) =
+    x .write-set .ensures .1 ∙ ap (λ (z : ℤ). roomAfter (x .write-set .result) (Write r z) (a .out .now)) e in
     let all =
     one-write (a .job) (a .out .now) (t .enum-told .given .1) r (sym (f .first-write .ensures) ∙ g .register .given .1) (v .before .if1 .left)
-    (x .write-request .result) answer in
+    (x .write-set .result) answer in
     (c .sent .ensures ∙ all .0, room ∙ all .1)
 
 pub next-spec : {M : Type 1} → statement M
@@ -98,7 +98,7 @@ next-spec =
     declined-requires-2
     returns-3
     value-of-requires
-    write-request-requires
+    write-set-requires
     sent-requires
     same-length
     returns-4)

@@ -31,13 +31,14 @@ use Rattle.restore_order.proofs.Integers.{clash}
 use Rattle.restore_order.proofs.Ordering.{in-below, first-in}
 use Rattle.restore_order.proofs.Openings.{every-at, passed}
 use Rattle.restore_order.proofs.Demand3.{slots-apart}
-use Rattle.restore_pathfinder.specs.declared.Phase.{Phase}
-use Rattle.restore_pathfinder.specs.declared.Phase.the-variants.{Ready, Waiting, Stopped}
-use Rattle.restore_pathfinder.specs.declared.Job.{Job}
+use Rattle.restore_jobs.specs.declared.Phase.{Phase}
+use Rattle.restore_jobs.specs.declared.Phase.the-variants.{Ready, Waiting, Stopped}
+use Rattle.restore_jobs.specs.declared.Job.{Job}
 use Rattle.restore_pathfinder.specs.declared.Step.the-variants.{Frame}
 use Rattle.restore_pathfinder.specs.declared.Stepped.{Stepped}
-use Rattle.restore_pathfinder.specs.Calls.{phaseOf, machine, heldPhase, held, sentOf, stepFor, nextOf, roomOf, readAs, heardOf}
-use Rattle.restore_pathfinder.specs.Dialogues.{Call, next, reply, afterCall, afterCalls, Makes, Ranged}
+use Rattle.restore_jobs.specs.Jobs.{phaseOf, machine, heldPhase, held}
+use Rattle.restore_pathfinder.specs.Calls.{sentOf, stepFor, nextOf, roomOf, readAs, heardOf}
+use Rattle.restore_dialogues.specs.Dialogues.{Call, next, reply, afterCall, afterCalls, Makes, Ranged}
 
 -- ---- a job is the machine's
 

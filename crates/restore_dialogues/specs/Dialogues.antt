@@ -7,8 +7,8 @@ use Prim.Native.Nat.{ℕ, _<_}
 use Rattle.registers_pathfinder.specs.Registers.{inRange}
 use Rattle.restore_order.specs.Slots.{at}
 use Rattle.restore_order.specs.Line.{Moment, asks, hears}
-use Rattle.restore_pathfinder.specs.declared.Job.{Job}
+use Rattle.restore_jobs.specs.declared.Job.{Job}
 use Rattle.restore_pathfinder.specs.Calls.{nextOf, readAs, heardOf}
 
 -- next with so many bytes of room, or reply with these bytes
 pub data Call : Type 0 where

@@ -8,9 +8,9 @@ use lib.Seq.{take-all}
 use borrow.Author.Needs.{needs}
 use Rattle.restore_order.specs.Slots.{at}
 use Rattle.restore_rules.proofs.Numbers.{from-bits}
-use Rattle.restore_pathfinder.proofs.Copies.{copied-more}
-use Rattle.restore_pathfinder.proofs.copy.Statement.{statement}
-use Rattle.restore_pathfinder.proofs.copy.Tie as tie
+use Rattle.restore_jobs.proofs.Copies.{copied-more}
+use Rattle.restore_jobs.proofs.copy.Statement.{statement}
+use Rattle.restore_jobs.proofs.copy.Tie as tie
 
 abbrev Inv-loop : tie.InvT-loop
 Inv-loop from to₀ i₀ to i = (i ≤ length from) × (length to ≡ length to₀) × (take i to ≡ take i from)

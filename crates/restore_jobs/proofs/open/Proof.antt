@@ -8,10 +8,10 @@ use borrow.Author.Needs.{needs}
 use Rattle.restore_order.specs.Machine.{jobOf, ready}
 use Rattle.restore_order.specs.Opening.{pathfinder, opened, shapely, opening}
 use Rattle.restore_opening.proofs.Judging.{lengths, is-opened}
-use Rattle.restore_pathfinder.specs.Calls.{openedAs}
-use Rattle.restore_pathfinder.proofs.Steps.{is-refused}
-use Rattle.restore_pathfinder.proofs.open.Statement.{statement}
-use Rattle.restore_pathfinder.proofs.open.Tie as tie
+use Rattle.restore_jobs.specs.Jobs.{openedAs}
+use Rattle.restore_jobs.proofs.Refused.{is-refused}
+use Rattle.restore_jobs.proofs.open.Statement.{statement}
+use Rattle.restore_jobs.proofs.open.Tie as tie
 
 -- where the opening was accepted
 passed : (c : tie.After-enum-told)
