@@ -7,7 +7,7 @@ use lib.IntN.{ℤ, pos}
 use lib.ListN.{length}
 use Rattle.laws.specs.Choice.{pick}
 use Rattle.monitor3_tongzhu.specs.declared.Lists.{Lists}
-use Rattle.exports_rows.specs.Told.{behind}
+use Rattle.exports_rows.specs.Told.{placed}
 
 -- cells from place 12 on, balance from 44, sensors from 48, MOSFET sensors from 64, to 79
 abbrev pub listParts : Lists → List (List ℤ)
@@ -16,9 +16,15 @@ listParts l = map pos (l .cells) ∷ map pos (l .balance) ∷ l .sensors ∷ l .
 abbrev pub listSizes : List ℕ
 listSizes = 32 ∷ 4 ∷ 16 ∷ 16 ∷ []
 
--- a row in which the lists have been placed
+-- a row in which the lists have been placed: cells and balance, then sensors and MOSFET sensors
+abbrev pub placedCells : Lists → List ℤ → List ℤ
+placedCells l row = placed 44 (map pos (l .balance)) (placed 12 (map pos (l .cells)) row)
+
+abbrev pub placedSensors : Lists → List ℤ → List ℤ
+placedSensors l row = placed 64 (l .mosfets) (placed 48 (l .sensors) row)
+
 abbrev pub placedLists : Lists → List ℤ → List ℤ
-placedLists l row = behind 12 (listParts l) listSizes row
+placedLists l row = placedSensors l (placedCells l row)
 
 -- the same; where the row has fewer than 80 places, all as it was
 unfoldable pub listed : Lists → List ℤ → List ℤ

@@ -1,5 +1,6 @@
 // The lists of a Tongzhu monitor 3 in a row of numbers, for the console, C and Rust alike: each goes from the payload straight into its
 // places (docs/DECISIONS.md, Tongzhu). `specs/Lists.antt` says at which place each list begins.
+use monitor3_tongzhu::Places;
 use monitor3_tongzhu::find_lists;
 use numbers::Order;
 use numbers::number16;
@@ -9,8 +10,8 @@ ghost use Prim.Native.Nat.{_+_, _*_, _≤_};
 ghost use lib.IntN.{pos};
 ghost use lib.ListN.{length, getD, replicate};
 ghost use Rattle.monitor3_tongzhu.specs.Values.{numberAt, temperatureAt, placesOf};
-ghost use Rattle.monitor3_tongzhu.specs.Layout.{listsAt};
-ghost use Rattle.lists_tongzhu.specs.Lists.{placedLists, listed};
+ghost use Rattle.monitor3_tongzhu.specs.Layout.{Within, listsIn, listsAt};
+ghost use Rattle.lists_tongzhu.specs.Lists.{placedCells, placedSensors, listed};
 
 // Puts the lists of a monitor 3 with this payload into the row, behind the places of its numbers; where the row has fewer than 80 places,
 // nothing.
@@ -20,16 +21,23 @@ pub fn put_lists(p: &[u8], row: &mut [i32])
     if row.len() < 80 {
         return;
     }
-    fill(p, row);
+    let w = find_lists(p, 0);
+    put_cells(p, w, row);
+    put_sensors(p, w, row);
 }
 
-fn fill(p: &[u8], row: &mut [i32])
-    requires { ⌜ 80 ≤ length (now row) ⌝ }
-    ensures { λ _. ⌜ now (row .exit) ≡ placedLists (listsAt (now (p .entry)) 0) (now (row .entry)) ⌝ }
+fn put_cells(p: &[u8], w: Places, row: &mut [i32])
+    requires { ⌜ Within (length (now p)) w × (80 ≤ length (now row)) ⌝ }
+    ensures { λ _. ⌜ now (row .exit) ≡ placedCells (listsIn (now (p .entry)) w) (now (row .entry)) ⌝ }
 {
-    let w = find_lists(p, 0);
     put_voltages(p, w.cells_from, w.cells, &mut row[12..44]);
     put_flags(p, w.balance_from, w.balance, &mut row[44..48]);
+}
+
+fn put_sensors(p: &[u8], w: Places, row: &mut [i32])
+    requires { ⌜ Within (length (now p)) w × (80 ≤ length (now row)) ⌝ }
+    ensures { λ _. ⌜ now (row .exit) ≡ placedSensors (listsIn (now (p .entry)) w) (now (row .entry)) ⌝ }
+{
     put_temperatures(p, w.sensors_from, w.sensors, &mut row[48..64]);
     put_temperatures(p, w.mosfets_from, w.mosfets, &mut row[64..80]);
 }
@@ -42,7 +50,8 @@ fn put_voltages(p: &[u8], from: usize, n: usize, row: &mut [i32])
     clear(row);
     let mut i = 0;
     while i < n {
-        row[i] = number16(Order::LowFirst, p[from + 2 * i], p[from + 2 * i + 1]) as i32;
+        let at = from + 2 * i;
+        row[i] = number16(Order::LowFirst, p[at], p[at + 1]) as i32;
         i += 1;
     }
 }

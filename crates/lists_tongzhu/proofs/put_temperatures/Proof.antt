@@ -23,7 +23,7 @@ abbrev μ-loop : tie.MeasureT-loop
 μ-loop p from n row₀ i₀ row i = n - i
 
 clear-requires : tie.Need-clear-requires Inv-loop μ-loop
-clear-requires c κs = search needs
+clear-requires c κs = tt
 
 loop-holds : tie.Need-loop-holds Inv-loop μ-loop
 unfolding firsts
@@ -36,7 +36,7 @@ shared-slice-read-signed8 : tie.Need-shared-slice-read-signed8 Inv-loop μ-loop
 shared-slice-read-signed8 c = omega arith
 
 signed8-requires : tie.Need-signed8-requires Inv-loop μ-loop
-signed8-requires c κs = search needs
+signed8-requires c κs = tt
 
 cast-row : tie.Need-cast-row Inv-loop μ-loop
 cast-row c = signed-fits w8 (c .signed8 .result) tt (record { sfits = c .signed8 .ok })

@@ -10,7 +10,7 @@ use lib.ListN.{length, drop, length-set}
 use mir.Syntax.{w16}
 use Rattle.laws.specs.Firsts.{firsts}
 use Rattle.laws.proofs.Firsts.{firsts-more}
-use Rattle.widths.proofs.Widening.{reads}
+use Rattle.widths.proofs.Widening.{fits, reads}
 use Rattle.monitor3_tongzhu.specs.Values.{numberAt}
 use Rattle.lists_tongzhu.proofs.put_voltages.Statement.{statement}
 use Rattle.lists_tongzhu.proofs.put_voltages.Tie as tie
@@ -22,41 +22,35 @@ abbrev μ-loop : tie.MeasureT-loop
 μ-loop p from n row₀ i₀ row i = n - i
 
 clear-requires : tie.Need-clear-requires Inv-loop μ-loop
-clear-requires c κs = search needs
+clear-requires c κs = tt
 
 loop-holds : tie.Need-loop-holds Inv-loop μ-loop
 unfolding firsts
 loop-holds c = search needs
 
-mul-number16 : tie.Need-mul-number16 Inv-loop μ-loop
-mul-number16 c = omega arith
+mul-at : tie.Need-mul-at Inv-loop μ-loop
+mul-at c = omega arith
 
-add-number16 : tie.Need-add-number16 Inv-loop μ-loop
-add-number16 c = omega arith
+add-at : tie.Need-add-at Inv-loop μ-loop
+add-at c = omega arith
 
 shared-slice-read-number16 : tie.Need-shared-slice-read-number16 Inv-loop μ-loop
 shared-slice-read-number16 c = omega arith
 
-mul-number16-2 : tie.Need-mul-number16-2 Inv-loop μ-loop
-mul-number16-2 c = omega arith
-
-add-number16-2 : tie.Need-add-number16-2 Inv-loop μ-loop
-add-number16-2 c = omega arith
-
-add-number16-3 : tie.Need-add-number16-3 Inv-loop μ-loop
-add-number16-3 c = omega arith
+add-number16 : tie.Need-add-number16 Inv-loop μ-loop
+add-number16 c = omega arith
 
 shared-slice-read-number16-2 : tie.Need-shared-slice-read-number16-2 Inv-loop μ-loop
 shared-slice-read-number16-2 c = omega arith
 
 number16-requires : tie.Need-number16-requires Inv-loop μ-loop
-number16-requires c κs = search needs
+number16-requires c κs = tt
 
 cast-row : tie.Need-cast-row Inv-loop μ-loop
-cast-row c = search needs
+cast-row c = fits {w = w16} tt (record { fits = c .number16 .ok })
 
-mul-t22 : tie.Need-mul-t22 Inv-loop μ-loop
-mul-t22 c = omega arith
+mul-t19 : tie.Need-mul-t19 Inv-loop μ-loop
+mul-t19 c = omega arith
 
 slice-set-from-row : tie.Need-slice-set-from-row Inv-loop μ-loop
 slice-set-from-row c = omega arith
@@ -96,16 +90,14 @@ put-voltages-spec =
     μ-loop
     clear-requires
     loop-holds
-    mul-number16
-    add-number16
+    mul-at
+    add-at
     shared-slice-read-number16
-    mul-number16-2
-    add-number16-2
-    add-number16-3
+    add-number16
     shared-slice-read-number16-2
     number16-requires
     cast-row
-    mul-t22
+    mul-t19
     slice-set-from-row
     add-i
     loop-less
