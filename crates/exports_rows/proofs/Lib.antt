@@ -1,4 +1,3 @@
 pub mod Placing
 pub mod Same
 pub mod Telling
-pub mod Widening

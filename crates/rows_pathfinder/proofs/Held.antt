@@ -1,21 +1,14 @@
--- Signed numbers that were widened or multiplied, said of the numbers themselves: a variable holds a number's bits, and they read back.
--- Each law is over the width that the number had. Assumes nothing.
+-- Ten times a signed number of 16 bits, said of the number itself: a variable holds its bits, and they read back.
+-- Assumes nothing.
 use mathlib.Core.Path.{_≡_, ap, _∙_}
 use Prim.Native.Nat.{ℕ, zero, suc, _*_, _<_}
 use native.Mathlib.Omega.{arith}
 use lib.IntN.{ℤ, pos, negsuc, negℤ, _*ℤ_}
 use lib.Signed.{mag}
-use mir.Syntax.{Width, w16, w32}
+use mir.Syntax.{w16, w32}
 use mir.Val.{SFits, toZ, ofZ}
 use mir.ValLaws.{toZ-ofZ}
-
--- a number of w bits in a wider variable
-module _ (w v : Width) (x : ℤ) (f : SFits w x) (g : SFits v x) where
-  pub wide-fits : SFits v (toZ w (ofZ w x))
-  wide-fits = rw (toZ-ofZ w x f) g
-
-  pub wide-held : toZ v (ofZ v (toZ w (ofZ w x))) ≡ x
-  wide-held = ap (λ (z : ℤ). toZ v (ofZ v z)) (toZ-ofZ w x f) ∙ toZ-ofZ v x g
+use Rattle.widths.proofs.Widening.{wide-held}
 
 mag-neg : (n k : ℕ) → n < k → mag (negℤ (pos n)) < k
 mag-neg zero k h = h

@@ -3,7 +3,7 @@
 use mir.Syntax.{w16, w64}
 use mir.Val.{SFits}
 use mir.Facts.{sfits-widen}
-use Rattle.exports_rows.proofs.Widening.{wide-fits, wide-held}
+use Rattle.widths.proofs.Widening.{wide-fits, wide-held}
 use borrow.Author.Needs.{needs}
 use Rattle.exports_pathfinder.proofs.wide.Statement.{statement}
 use Rattle.exports_pathfinder.proofs.wide.Tie as tie

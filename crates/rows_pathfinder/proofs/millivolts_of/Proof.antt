@@ -5,7 +5,8 @@ use lib.IntN.{ℤ}
 use mir.Syntax.{w16, w32}
 use mir.Val.{SFits}
 use mir.Facts.{sfits-widen}
-use Rattle.rows_pathfinder.proofs.Held.{wide-fits, ten-held-fits, ten-held}
+use Rattle.widths.proofs.Widening.{wide-fits}
+use Rattle.rows_pathfinder.proofs.Held.{ten-held-fits, ten-held}
 use Rattle.rows_pathfinder.specs.declared.Millivolts.{Millivolts}
 use borrow.Author.Needs.{needs}
 use Rattle.rows_pathfinder.proofs.millivolts_of.Statement.{statement}

@@ -4,7 +4,7 @@ use mathlib.Core.Path.{_∙_}
 use mir.Syntax.{w8, w64}
 use mir.Val.{SFits}
 use mir.Facts.{sfits-widen}
-use Rattle.rows_pathfinder.proofs.Held.{wide-fits, wide-held}
+use Rattle.widths.proofs.Widening.{wide-fits, wide-held}
 use borrow.Author.Needs.{needs}
 use Rattle.rows_pathfinder.proofs.wide8.Statement.{statement}
 use Rattle.rows_pathfinder.proofs.wide8.Tie as tie
