@@ -43,11 +43,7 @@ pub extern "C" fn tracksaffron_pf_find(s: &[u8], found: &mut [usize]) -> u64
     ensures answer { λ r. ⌜ r ≡ foundCode (searchOf (now (s .entry))) (length (now (found .entry))) ⌝ }
     ensures filled { λ r. ⌜ now (found .exit) ≡ foundAfter (searchOf (now (s .entry))) (now (found .entry)) ⌝ }
 {
-    let f = search_pathfinder::find(s);
-    match f {
-        Found::At(place, len) => put_found(place, len, found),
-        Found::Nothing => coded(2, 0),
-    }
+    tell_found(search_pathfinder::find(s), found)
 }
 
 // A count of ten millivolts as millivolts.
@@ -105,6 +101,16 @@ fn bit(b: bool) -> i64
     ensures { λ r. ⌜ r ≡ truthOf b ⌝ }
 {
     if b { 1 } else { 0 }
+}
+
+fn tell_found(f: Found, found: &mut [usize]) -> u64
+    ensures answer { λ r. ⌜ r ≡ foundCode f (length (now (found .entry))) ⌝ }
+    ensures filled { λ r. ⌜ now (found .exit) ≡ foundAfter f (now (found .entry)) ⌝ }
+{
+    match f {
+        Found::At(place, len) => put_found(place, len, found),
+        Found::Nothing => coded(2, 0),
+    }
 }
 
 fn put_found(place: usize, len: usize, found: &mut [usize]) -> u64

@@ -1,6 +1,6 @@
--- `exports_pathfinder::tracksaffron_pf_find` meets its contract: place and length that the search finds, or that there is no frame.
+-- `exports_pathfinder::tracksaffron_pf_find` meets its contract: what the search finds, told.
 -- Assumes nothing.
-use mathlib.Core.Path.{sym, ap, _∙_}
+use mathlib.Core.Path.{ap, _∙_}
 use lib.ListN.{length}
 use Rattle.exports_pathfinder.specs.Codes.{foundCode, foundAfter}
 use borrow.Author.Needs.{needs}
@@ -10,43 +10,19 @@ use Rattle.exports_pathfinder.proofs.tracksaffron_pf_find.Tie as tie
 find-requires : tie.Need-find-requires
 find-requires c κs = search needs
 
-enum-known-f : tie.Need-enum-known-f
-enum-known-f c = search needs
-
-put-found-requires : tie.Need-put-found-requires
-put-found-requires c κs = search needs
-
-enum-told : tie.Need-enum-told
-enum-told c = search needs
-
-coded-requires : tie.Need-coded-requires
-coded-requires c κs = search needs
+tell-found-requires : tie.Need-tell-found-requires
+tell-found-requires c κs = search needs
 
 same-length : tie.Need-same-length
 same-length c = search needs
 
 returns : tie.Need-returns
 returns c =
-    let a = c .before .before .before .before .before .before .before .before .before .before .args in
-    let told = c .before .before .put-found .ensures in
-    let e = sym (c .before .before .before .before .before .f .given .1) ∙ c .before .before .before .before .before .before .before .find .ensures in
+    let a = c .before .before .before .before .before .before .before .args in
+    let told = c .before .before .tell-found .ensures in
+    let e = c .before .before .before .before .find .ensures in
     (told .0 ∙ ap (λ f. foundCode f (length (a .found .now))) e, told .1 ∙ ap (λ f. foundAfter f (a .found .now)) e)
-
-returns-2 : tie.Need-returns-2
-returns-2 c =
-    let a = c .before .before .before .before .before .before .args in
-    let e = sym (c .before .enum-told .given .1) ∙ c .before .before .before .find .ensures in
-    (c .coded .ensures ∙ ap (λ f. foundCode f (length (a .found .now))) e, ap (λ f. foundAfter f (a .found .now)) e)
 
 pub tracksaffron-pf-find-spec : {M : Type 1} → statement M
 tracksaffron-pf-find-spec =
-    tie.close
-    (tie.spec
-    find-requires
-    enum-known-f
-    put-found-requires
-    enum-told
-    coded-requires
-    same-length
-    returns
-    returns-2)
+    tie.close (tie.spec find-requires tell-found-requires same-length returns)
