@@ -11,13 +11,14 @@ use Rattle.refusals.specs.declared.Refusal.{Refusal}
 use Rattle.refusals.specs.Refused.{refusedWith, request, shape, room}
 use Rattle.frames_pathfinder.specs.declared.Frame.the-variants.{Whole, Refused as NoFrame}
 use Rattle.frames_pathfinder.specs.Reading.{frameOf}
-use Rattle.records_pathfinder.specs.declared.Kind.{Kind}
-use Rattle.records_pathfinder.specs.declared.Kind.the-variants.{Failure as Fails, Listed, Other}
-use Rattle.records_pathfinder.specs.declared.Shape.{Shape}
-use Rattle.records_pathfinder.specs.declared.Shape.the-variants.{Words as HasWords, Name as HasName, Nothing, Unlisted}
+use Rattle.opcodes_pathfinder.specs.declared.Kind.{Kind}
+use Rattle.opcodes_pathfinder.specs.declared.Kind.the-variants.{Failure as Fails, Listed, Other}
+use Rattle.opcodes_pathfinder.specs.declared.Shape.{Shape}
+use Rattle.opcodes_pathfinder.specs.declared.Shape.the-variants.{Words as HasWords, Name as HasName, Nothing, Unlisted}
 use Rattle.records_pathfinder.specs.declared.Reply.{Reply}
 use Rattle.records_pathfinder.specs.declared.Reply.the-variants.{Words, Name, Failure, Refused}
-use Rattle.records_pathfinder.specs.Replies.{kindOf, shapeOf, wordsJudged, shaped, byKind, byShape, judged, ofFrame, replyOf}
+use Rattle.opcodes_pathfinder.specs.Opcodes.{kindOf, shapeOf}
+use Rattle.records_pathfinder.specs.Replies.{wordsJudged, shaped, byKind, byShape, judged, ofFrame, replyOf}
 
 -- ---- words
 

@@ -1,42 +1,23 @@
 -- What reading a Pathfinder reply finds, and what it leaves in the lent row and bytes (01, Pathfinder and Refusal numbers).
 -- After the frame's own refusals the order is 7, 8, 11. Assumes nothing.
 use Prim.Native.Nat.{ℕ, _-_, _*_}
-use mathlib.Core.Bool.{Bool, _||_, _&&_}
 use mathlib.Core.List.{List, _++_}
 use lib.IntN.{ℤ}
 use lib.ListN.{length, take, drop}
-use lib.Dec.{ltb, leb, eqb}
+use lib.Dec.{ltb, eqb}
 use Rattle.laws.specs.Choice.{pick}
 use Rattle.refusals.specs.Refused.{refusedWith, request, shape, room}
 use Rattle.frames_pathfinder.specs.declared.Frame.{Frame}
 use Rattle.frames_pathfinder.specs.declared.Frame.the-variants.{Whole, Refused as NoFrame}
 use Rattle.frames_pathfinder.specs.Reading.{frameOf}
 use Rattle.records_pathfinder.specs.Words.{words}
-use Rattle.records_pathfinder.specs.declared.Kind.{Kind}
-use Rattle.records_pathfinder.specs.declared.Kind.the-variants.{Failure as Fails, Listed, Other}
-use Rattle.records_pathfinder.specs.declared.Shape.{Shape}
-use Rattle.records_pathfinder.specs.declared.Shape.the-variants.{Words as HasWords, Name as HasName, Nothing, Unlisted}
+use Rattle.opcodes_pathfinder.specs.declared.Kind.{Kind}
+use Rattle.opcodes_pathfinder.specs.declared.Kind.the-variants.{Failure as Fails, Listed, Other}
+use Rattle.opcodes_pathfinder.specs.declared.Shape.{Shape}
+use Rattle.opcodes_pathfinder.specs.declared.Shape.the-variants.{Words as HasWords, Name as HasName, Nothing, Unlisted}
+use Rattle.opcodes_pathfinder.specs.Opcodes.{kindOf, shapeOf}
 use Rattle.records_pathfinder.specs.declared.Reply.{Reply}
 use Rattle.records_pathfinder.specs.declared.Reply.the-variants.{Words, Name, Written, Failure, Refused}
-
--- the failure opcodes: 20 to 24, 26, 27 and 2D
-abbrev pub isFailure : ℕ → Bool
-isFailure op = (leb 0x20 op && leb op 0x24) || ((leb 0x26 op && leb op 0x27) || eqb op 0x2D)
-
--- the opcodes of listed requests: 01 to 05 and 0E
-abbrev pub isListed : ℕ → Bool
-isListed op = (leb 0x01 op && leb op 0x05) || eqb op 0x0E
-
-unfoldable pub kindOf : ℕ → Kind
-kindOf op = pick (isFailure op) Fails (pick (isListed op) Listed Other)
-
--- 01 three words, 02 fifty, 03 fifty-three, 04 sixteen, 05 a name, 0E nothing
-unfoldable pub shapeOf : ℕ → Shape
-shapeOf asked =
-    pick (eqb asked 0x01) (HasWords 3)
-    (pick (eqb asked 0x02) (HasWords 50)
-    (pick (eqb asked 0x03) (HasWords 53)
-    (pick (eqb asked 0x04) (HasWords 16) (pick (eqb asked 0x05) HasName (pick (eqb asked 0x0E) Nothing Unlisted)))))
 
 -- n words in data of so many bytes, with room for so many words
 unfoldable pub wordsJudged : ℕ → ℕ → ℕ → Reply

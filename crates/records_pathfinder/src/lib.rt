@@ -4,6 +4,10 @@ use frames_pathfinder::Frame;
 use frames_pathfinder::read_frame;
 use numbers::Order;
 use numbers::number32;
+use opcodes_pathfinder::Kind;
+use opcodes_pathfinder::Shape;
+use opcodes_pathfinder::kind_of;
+use opcodes_pathfinder::shape_of;
 use refusals::Refusal;
 use refusals::refuse;
 use signs::signed32;
@@ -13,23 +17,7 @@ ghost use Prim.Native.Nat.{_*_, _≤_};
 ghost use lib.ListN.{length, drop};
 ghost use Rattle.refusals.specs.Refused.{refusedWith};
 ghost use Rattle.records_pathfinder.specs.Words.{wordOf, words};
-ghost use Rattle.records_pathfinder.specs.Replies.{kindOf, shapeOf, wordsJudged, shaped, judged, replyOf, rowAfter, nameAfter};
-
-// What an opcode is in a reply.
-pub enum Kind {
-    Failure,
-    Listed,
-    Other,
-}
-
-// What the reply to a request holds.
-pub enum Shape {
-    Words(usize),
-    Name,
-    Nothing,
-    // There is no such request.
-    Unlisted,
-}
+ghost use Rattle.records_pathfinder.specs.Replies.{wordsJudged, shaped, judged, replyOf, rowAfter, nameAfter};
 
 // What a reply says.
 pub enum Reply {
@@ -69,32 +57,6 @@ pub fn read_reply(asked: u8, s: &[u8], row: &mut [i32], name: &mut [u8]) -> Repl
                 Reply::Refused(r) => Reply::Refused(r),
             }
         }
-    }
-}
-
-// Sorts the opcodes of replies.
-pub fn kind_of(opcode: u8) -> Kind
-    ensures { λ r. ⌜ r ≡ kindOf opcode ⌝ }
-{
-    match opcode {
-        0x20..=0x24 | 0x26 | 0x27 | 0x2D => Kind::Failure,
-        0x01..=0x05 | 0x0E => Kind::Listed,
-        _ => Kind::Other,
-    }
-}
-
-// What the reply to a request holds.
-pub fn shape_of(asked: u8) -> Shape
-    ensures { λ r. ⌜ r ≡ shapeOf asked ⌝ }
-{
-    match asked {
-        0x01 => Shape::Words(3),
-        0x02 => Shape::Words(50),
-        0x03 => Shape::Words(53),
-        0x04 => Shape::Words(16),
-        0x05 => Shape::Name,
-        0x0E => Shape::Nothing,
-        _ => Shape::Unlisted,
     }
 }
 

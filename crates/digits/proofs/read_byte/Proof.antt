@@ -1,6 +1,6 @@
 -- `digits::read_byte` meets its contract: a character that is no digit decides; two digits are below 16, so that their byte fits.
 -- Assumes nothing.
-use mathlib.Core.Path.{_≡_}
+use mathlib.Core.Path.{_≡_, sym, _∙_}
 use native.Mathlib.Omega.{arith}
 use Prim.Native.Nat.{_<_}
 use Rattle.digits.specs.declared.Hex.the-variants.{Value, Other}
@@ -20,7 +20,7 @@ enum-told : tie.Need-enum-told
 enum-told c = search needs
 
 returns : tie.Need-returns
-returns c = let high : digitOf (c .before .before .before .args .high) ≡ Other = cc in rw high
+returns c = rw (sym (c .before .before .read-digit .ensures) ∙ c .enum-told .given .1)
 
 read-digit-requires-2 : tie.Need-read-digit-requires-2
 read-digit-requires-2 c κs = search needs
@@ -32,12 +32,16 @@ enum-told-2 : tie.Need-enum-told-2
 enum-told-2 c = search needs
 
 returns-2 : tie.Need-returns-2
-returns-2 c = let a = c .before .before .before .before .before .before .before .args in let high : digitOf (a .high) ≡ Value (c .before .before .before .before .h .given .0 .0) = cc in let low : digitOf (a .low) ≡ Other = cc in rw (high, low)
+returns-2 c =
+    let first = c .before .before .before .before in
+    rw (sym (first .before .before .read-digit .ensures) ∙ first .h .given .1, sym (c .before .before .read-digit2 .ensures) ∙ c .enum-told2 .given .1)
 
 -- the two digits, each below 16
 digits : (c : tie.After-known-told2)
     → (digitOf (c .before .before .before .before .before .before .before .before .args .high) ≡ Value (c .before .before .before .before .before .h .given .0 .0)) × (digitOf (c .before .before .before .before .before .before .before .before .args .low) ≡ Value (c .before .l .given .0 .0))
-digits c = (cc, cc)
+digits c =
+    let first = c .before .before .before .before .before in
+    (sym (first .before .before .read-digit .ensures) ∙ first .h .given .1, sym (c .before .before .before .read-digit2 .ensures) ∙ c .before .l .given .1)
 
 small : (c : tie.After-known-told2) → (c .before .before .before .before .before .h .given .0 .0 < 16) × (c .before .l .given .0 .0 < 16)
 small c =

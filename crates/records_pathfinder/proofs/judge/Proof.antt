@@ -6,9 +6,9 @@ use mathlib.Core.Logic.{⊎-elim}
 use types.Run.{OneOf}
 use denote.Enum.Declared.{tagOf}
 use native.Mathlib.Omega.{arith}
-use Rattle.records_pathfinder.proofs.Shape.{the-type}
-use Rattle.records_pathfinder.specs.declared.Shape.{Shape}
-use Rattle.records_pathfinder.specs.declared.Shape.the-variants.{Unlisted}
+use Rattle.opcodes_pathfinder.proofs.Shape.{the-type}
+use Rattle.opcodes_pathfinder.specs.declared.Shape.{Shape}
+use Rattle.opcodes_pathfinder.specs.declared.Shape.the-variants.{Unlisted}
 use Rattle.records_pathfinder.proofs.Answers.{unlisted-request, failed, failed-long, other-reply, another-reply, asked-reply}
 use borrow.Author.Needs.{needs}
 use Rattle.records_pathfinder.proofs.judge.Statement.{statement}

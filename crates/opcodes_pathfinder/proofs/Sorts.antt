@@ -4,8 +4,8 @@ use mathlib.Core.Path.{_≡_, ap}
 use Prim.Native.Nat.{ℕ, _<_, _≤_}
 use native.Mathlib.Omega.{arith}
 use borrow.Author.Tests.{le-leb, lt-leb, ne-eqb}
-use Rattle.records_pathfinder.specs.declared.Kind.the-variants.{Failure as Fails, Listed, Other}
-use Rattle.records_pathfinder.specs.Replies.{kindOf}
+use Rattle.opcodes_pathfinder.specs.declared.Kind.the-variants.{Failure as Fails, Listed, Other}
+use Rattle.opcodes_pathfinder.specs.Opcodes.{kindOf}
 
 module _ (op : ℕ) where
   pub other-low : op < 1 → Other ≡ kindOf op

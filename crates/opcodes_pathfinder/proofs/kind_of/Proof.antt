@@ -1,11 +1,11 @@
--- `records_pathfinder::kind_of` meets its contract: one match over the opcode numbers, each way by the law for its range.
+-- `opcodes_pathfinder::kind_of` meets its contract: one match over the opcode numbers, each way by the law for its range.
 -- Assumes nothing.
 use mathlib.Core.Path.{sym, ap}
-use Rattle.records_pathfinder.specs.Replies.{kindOf}
-use Rattle.records_pathfinder.proofs.Sorts.{other-low, other-mid, other-37, other-high, fails-low, fails-mid, listed-low}
+use Rattle.opcodes_pathfinder.specs.Opcodes.{kindOf}
+use Rattle.opcodes_pathfinder.proofs.Sorts.{other-low, other-mid, other-37, other-high, fails-low, fails-mid, listed-low}
 use borrow.Author.Needs.{needs}
-use Rattle.records_pathfinder.proofs.kind_of.Statement.{statement}
-use Rattle.records_pathfinder.proofs.kind_of.Tie as tie
+use Rattle.opcodes_pathfinder.proofs.kind_of.Statement.{statement}
+use Rattle.opcodes_pathfinder.proofs.kind_of.Tie as tie
 
 returns : tie.Need-returns
 returns c = other-low _ (c .if1 .taken)

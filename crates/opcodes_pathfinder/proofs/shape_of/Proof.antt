@@ -1,10 +1,10 @@
--- `records_pathfinder::shape_of` meets its contract: each listed number by computing, any other past all tests.
+-- `opcodes_pathfinder::shape_of` meets its contract: each listed number by computing, any other past all tests.
 -- Assumes nothing.
 use mathlib.Core.Path.{sym, ap}
 use borrow.Author.Tests.{ne-eqb}
-use Rattle.records_pathfinder.specs.Replies.{shapeOf}
-use Rattle.records_pathfinder.proofs.shape_of.Statement.{statement}
-use Rattle.records_pathfinder.proofs.shape_of.Tie as tie
+use Rattle.opcodes_pathfinder.specs.Opcodes.{shapeOf}
+use Rattle.opcodes_pathfinder.proofs.shape_of.Statement.{statement}
+use Rattle.opcodes_pathfinder.proofs.shape_of.Tie as tie
 
 returns : tie.Need-returns
 unfolding shapeOf
