@@ -2,9 +2,9 @@
 // INFO comes as characters; what is said of it is said of the bytes that they carry.
 use characters_pace::byte_of;
 use characters_pace::word_of;
-use characters_pace::words_of;
 use counts_pace::Counts;
 use counts_pace::counts_of;
+use lists_pace::words_of;
 use refusals::Refusal;
 use refusals::refuse;
 use signs::signed16;

@@ -2,15 +2,14 @@
 use digits::Hex;
 use digits::read_byte;
 use digits::read_digit;
-use digits::write_byte;
 use numbers::Order;
 use numbers::number16;
 ghost use mathlib.Core.Path.{_≡_};
 ghost use Prim.Native.Nat.{_<_};
-ghost use lib.ListN.{length, getD};
+ghost use lib.ListN.{getD};
 ghost use Rattle.digits.specs.Hexes.{digitOf, byteOf};
 ghost use Rattle.laws.specs.Choice.{pick};
-ghost use Rattle.characters_pace.specs.Characters.{valueIn, isValue, allHex, bytesIn, wordAt, bytesAt, wordsAt, hexAfter};
+ghost use Rattle.characters_pace.specs.Characters.{valueIn, isValue, allHex, bytesIn, wordAt};
 
 // Whether each character is one of 0-9 and A-F. Every character is looked at, so that several are at a time.
 pub fn all_hex(s: &[u8]) -> bool
@@ -72,30 +71,6 @@ pub fn word_of(s: &[u8], i: usize) -> u16
     }
 }
 
-// Fills the row with the bytes from place `at` on.
-pub fn bytes_of(s: &[u8], at: u8, row: &mut [u8])
-    ensures { λ _. ⌜ now (row .exit) ≡ bytesAt at (length (now (row .entry))) (bytesIn (now (s .entry))) ⌝ }
-{
-    let from = at as usize;
-    let mut i = 0;
-    while i < row.len() {
-        row[i] = byte_of(s, from + i);
-        i += 1;
-    }
-}
-
-// Fills the row with the numbers of two bytes from place `at` on.
-pub fn words_of(s: &[u8], at: u8, row: &mut [u16])
-    ensures { λ _. ⌜ now (row .exit) ≡ wordsAt at (length (now (row .entry))) (bytesIn (now (s .entry))) ⌝ }
-{
-    let from = at as usize;
-    let mut i = 0;
-    while i < row.len() {
-        row[i] = word_of(s, from + 2 * i);
-        i += 1;
-    }
-}
-
 // The byte of two characters, 0 where one is no digit.
 fn pair_of(high: u8, low: u8) -> u8
     ensures { λ r. ⌜ r ≡ valueIn (byteOf high low) ⌝ }
@@ -104,21 +79,5 @@ fn pair_of(high: u8, low: u8) -> u8
     match d {
         Hex::Value(b) => b,
         Hex::Other => 0,
-    }
-}
-
-// Writes the characters of the bytes to the front of the room; where it is too small, nothing.
-pub fn put_hex(bytes: &[u8], out: &mut [u8])
-    ensures { λ _. ⌜ now (out .exit) ≡ hexAfter (now (bytes .entry)) (now (out .entry)) ⌝ }
-{
-    if out.len() / 2 < bytes.len() {
-        return;
-    }
-    let mut i = 0;
-    while i < bytes.len() {
-        let pair = write_byte(bytes[i]);
-        out[2 * i] = pair[0];
-        out[2 * i + 1] = pair[1];
-        i += 1;
     }
 }

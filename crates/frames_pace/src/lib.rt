@@ -2,11 +2,11 @@
 // LENGTH, INFO, CHKSUM, then carriage return.
 use characters_pace::all_hex;
 use characters_pace::byte_of;
-use characters_pace::put_hex;
 use characters_pace::word_of;
 use lengths_pace::Length;
 use lengths_pace::length_count;
 use lengths_pace::length_word;
+use lists_pace::put_hex;
 use numbers::Order;
 use numbers::bytes16;
 use refusals::Refusal;

@@ -1,9 +1,9 @@
 // PACE replies (004; 01, PACE): the frame, the address and the command asked, the return code, and the record that the command calls for.
 use analog_pace::Analog;
 use analog_pace::read_analog;
-use characters_pace::bytes_of;
 use frames_pace::Frame;
 use frames_pace::read_frame;
+use lists_pace::bytes_of;
 use refusals::Refusal;
 use refusals::refuse;
 use rows_pace::Command;

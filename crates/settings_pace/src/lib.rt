@@ -1,7 +1,7 @@
 // PACE settings in INFO: the values of a reply and those of a request (004, "Parameter Setting" tab; 01, PACE).
 // INFO comes as characters; what is said of it is said of the bytes that they carry.
 use characters_pace::byte_of;
-use characters_pace::words_of;
+use lists_pace::words_of;
 use refusals::Refusal;
 use refusals::refuse;
 use rows_pace::Row;

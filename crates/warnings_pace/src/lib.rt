@@ -1,8 +1,8 @@
 // The reply to 44, status (004, Get Status; 01, PACE).
 // INFO comes as characters; what is said of it is said of the bytes that they carry.
-use characters_pace::bytes_of;
 use counts_pace::Counts;
 use counts_pace::counts_of;
+use lists_pace::bytes_of;
 use refusals::Refusal;
 use refusals::refuse;
 ghost use mathlib.Core.Path.{_≡_};

@@ -1,4 +1,4 @@
--- `characters_pace::words_of` meets its contract. The loop's invariant: the numbers passed stand in front of what was there.
+-- `lists_pace::words_of` meets its contract. The loop's invariant: the numbers passed stand in front of what was there.
 -- Assumes nothing.
 use Prim.Native.Nat.{_+_, _-_, _*_, _≤_}
 use mathlib.Core.Path.{_≡_, refl}
@@ -7,9 +7,9 @@ use native.Mathlib.Omega.{arith}
 use lib.ListN.{length, drop, length-set}
 use Rattle.laws.specs.Firsts.{firsts}
 use Rattle.laws.proofs.Firsts.{firsts-more, firsts-all}
 use Rattle.characters_pace.specs.Characters.{bytesIn, wordAt}
-use Rattle.characters_pace.proofs.words_of.Statement.{statement}
-use Rattle.characters_pace.proofs.words_of.Tie as tie
+use Rattle.lists_pace.proofs.words_of.Statement.{statement}
+use Rattle.lists_pace.proofs.words_of.Tie as tie
 
 abbrev Inv-loop : tie.InvT-loop
 Inv-loop s at row₀ from i₀ row i = (i ≤ length row₀) × ((row ≡ firsts (λ k. wordAt (bytesIn s) (from + 2 * k)) i ++ drop i row₀) × (length row ≡ length row₀))

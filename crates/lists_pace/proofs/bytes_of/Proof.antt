@@ -1,4 +1,4 @@
--- `characters_pace::bytes_of` meets its contract. The loop's invariant: the bytes passed stand in front of what was there.
+-- `lists_pace::bytes_of` meets its contract. The loop's invariant: the bytes passed stand in front of what was there.
 -- Assumes nothing.
 use Prim.Native.Nat.{_+_, _-_, _≤_}
 use mathlib.Core.Path.{_≡_, refl}
@@ -7,9 +7,9 @@ use native.Mathlib.Omega.{arith}
 use lib.ListN.{length, getD, drop, length-set}
 use Rattle.laws.specs.Firsts.{firsts}
 use Rattle.laws.proofs.Firsts.{firsts-more, firsts-all}
 use Rattle.characters_pace.specs.Characters.{bytesIn}
-use Rattle.characters_pace.proofs.bytes_of.Statement.{statement}
-use Rattle.characters_pace.proofs.bytes_of.Tie as tie
+use Rattle.lists_pace.proofs.bytes_of.Statement.{statement}
+use Rattle.lists_pace.proofs.bytes_of.Tie as tie
 
 abbrev Inv-loop : tie.InvT-loop
 Inv-loop s at row₀ from i₀ row i = (i ≤ length row₀) × ((row ≡ firsts (λ k. getD (bytesIn s) (from + k) 0) i ++ drop i row₀) × (length row ≡ length row₀))
