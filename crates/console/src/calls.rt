@@ -1,5 +1,5 @@
 // The calls of the lines, by their number in `lines`: each is one that C and Rust link. A call answers its one number, a kind above 2 to the
-// 32 and a number below (docs/ARCHITECTURE.md, C and Rust); its values go into the row, its text into the room.
+// 32 and a number below (docs/DECISIONS.md, C and Rust); its values go into the row, its text into the room.
 use crate::words;
 use crate::words::Call;
 use crate::words::Fault;
@@ -80,7 +80,7 @@ fn put_two(row: &mut [i32], first: i32, second: i32) {
 
 fn pathfinder(call: usize, v: [u64; 10], s: &[u8], room: &mut [u8], row: &mut [i32]) -> u64 {
     match call {
-        3 => tracksaffron_pf_read(byte_of(v[0]), s, words::lent_row(row, v[9]), room),
+        3 => tracksaffron_pf_read(byte_of(v[0]), s, words::lent_row(row, v[words::ROOM]), room),
         4 => narrowed(v, row),
         5 => millivolts(v[0], row),
         6 => tracksaffron_pf_parse(s, row),

@@ -155,12 +155,12 @@ fn answer(
     at: usize,
 ) -> usize {
     let mut v = [0u64; 10];
-    v[9] = 8192;
+    v[words::ROOM] = 8192;
     let call = calls::with_job(call_of(line, bytes, row, &mut v), job);
     match call {
         Call::Number(k) => {
-            let s = words::given(bytes, v[8]);
-            let code = calls::make(k, v, s, words::lent(string, v[9]), row, job);
+            let s = words::given(bytes, v[words::GIVEN]);
+            let code = calls::make(k, v, s, words::lent(string, v[words::ROOM]), row, job);
             lines::put_answer(out, at, k, code, row, string)
         }
         Call::Faulty(f) => text::put_fault(out, at, f),
