@@ -1,5 +1,3 @@
 pub mod Cases
 pub mod Parts
-pub mod RoundTrip
 pub mod Whole
-pub mod Writing

@@ -20,11 +20,11 @@ use Rattle.characters_pace.proofs.Carried.{bytes-length}
 use Rattle.frames_pace.specs.declared.Frame.{Frame as AFrame}
 use Rattle.frames_pace.specs.declared.Frame.the-variants as frame
 use Rattle.frames_pace.specs.Frame as frames
-use Rattle.frames_pace.specs.Written as written
+use Rattle.frames_written_pace.specs.Written as written
 use Rattle.frames_pace.proofs.Parts.{info-length}
-use Rattle.frames_pace.proofs.RoundTrip.{payload-reads-back, frame-reads-back, payload-bytes, frame-writes-back}
+use Rattle.frames_written_pace.proofs.RoundTrip.{payload-reads-back, frame-reads-back, payload-bytes, frame-writes-back}
 use Rattle.frames_pace.proofs.Whole.{whole-says}
-use Rattle.frames_pace.proofs.Writing.{chars-length, written-says, written-fits}
+use Rattle.frames_written_pace.proofs.Writing.{chars-length, written-says, written-fits}
 use Rattle.rows_pace.specs.declared.Command.{Command}
 use Rattle.rows_pace.specs.declared.Command.the-variants as command
 use Rattle.rows_pace.specs.declared.Setting.{Setting}

@@ -11,7 +11,7 @@ use Rattle.refusals.specs.declared.Refusal.{Refusal}
 use Rattle.refusals.specs.declared.Written.{Written}
 use Rattle.refusals.specs.declared.Written.the-variants.{Frame, Refused}
 use Rattle.refusals.specs.Refused.{refusedWith, range}
-use Rattle.frames_pace.specs.Written as frames
+use Rattle.frames_written_pace.specs.Written as frames
 use Rattle.writes_pace.specs.declared.Info.{Info}
 use Rattle.rows_pace.specs.declared.Values.{Values}
 use Rattle.rows_pace.specs.Commands.{commandOf}

@@ -7,7 +7,7 @@ use Rattle.laws.specs.Choice.{pick}
 use Rattle.refusals.specs.declared.Written.{Written}
 use Rattle.refusals.specs.declared.Written.the-variants.{Frame, Refused}
 use Rattle.refusals.specs.Refused.{refusedWith, request, shape, range}
-use Rattle.frames_pace.specs.Written as frames
+use Rattle.frames_written_pace.specs.Written as frames
 use Rattle.rows_pace.specs.declared.Command.{Command}
 use Rattle.rows_pace.specs.declared.Command.the-variants as command
 use Rattle.rows_pace.specs.Commands.{commandOf}

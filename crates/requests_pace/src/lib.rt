@@ -2,7 +2,7 @@
 use characters_pace::byte_of;
 use frames_pace::Frame;
 use frames_pace::read_frame;
-use frames_pace::write_frame;
+use frames_written_pace::write_frame;
 use refusals::Refusal;
 use refusals::Written;
 use refusals::refuse;

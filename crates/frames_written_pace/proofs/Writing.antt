@@ -19,7 +19,7 @@ use Rattle.numbers.specs.Bytes.{bytesOf}
 use Rattle.characters_pace.specs.Characters.{hexed, hexAfter}
 use Rattle.refusals.specs.declared.Refusal.{Refusal}
 use Rattle.refusals.specs.declared.Written.the-variants.{Frame, Refused}
-use Rattle.frames_pace.specs.Written.{headBytes, bodyChars, endChars, frameChars, writtenOf, sealed}
+use Rattle.frames_written_pace.specs.Written.{headBytes, bodyChars, endChars, frameChars, writtenOf, sealed}
 use Rattle.characters_pace.proofs.Carried.{hexed-length, hex-exact}
 
 -- ---- the header

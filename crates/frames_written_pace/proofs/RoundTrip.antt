@@ -18,15 +18,15 @@ use Rattle.lengths_pace.proofs.Counts.{count-reads-back, word-writes-back}
 use Rattle.numbers.specs.declared.Order.the-variants.{HighFirst}
 use Rattle.numbers.specs.Bytes.{bytesOf}
 use Rattle.numbers.proofs.Orders.{Bytes, written-reads-back, read-writes-back}
 use Rattle.frames_pace.specs.declared.Frame.the-variants.{Whole}
 use Rattle.characters_pace.specs.Characters.{isValue, allHex, bytesIn, hexed, wordAt}
 use Rattle.frames_pace.specs.Frame.{innerOf, headOf, coveredOf, checkOf, infoOf, payloadOf, frameOf}
-use Rattle.frames_pace.specs.Written.{headBytes, bodyChars, endChars, frameChars}
+use Rattle.frames_written_pace.specs.Written.{headBytes, bodyChars, endChars, frameChars}
 use Rattle.characters_pace.proofs.Carried.{hexed-length, hexed-all, hexed-reads-back, bytes-length, bytes-small, read-writes-back as hexes-back}
 use Rattle.characters_pace.proofs.Tests.{all-append, all-split}
 use Rattle.frames_pace.proofs.Cases.{whole}
 use Rattle.frames_pace.proofs.Parts.{Cut, pieces, cut-pieces, head-length, info-length, check-length, in-pieces}
 use Rattle.frames_pace.proofs.Whole.{Said, whole-says}
 
 -- ---- written, then read
 

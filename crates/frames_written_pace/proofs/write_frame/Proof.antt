@@ -1,14 +1,14 @@
--- `frames_pace::write_frame` meets its contract: the refusals change nothing; else mark, header, INFO and end stand at the front, in this order.
+-- `frames_written_pace::write_frame` meets its contract: the refusals change nothing; else mark, header, INFO and end stand at the front, in this order.
 -- Assumes nothing.
 use mathlib.Core.Path.{refl, _∙_}
 use borrow.Author.Needs.{needs}
-use Rattle.frames_pace.proofs.Writing.{frame-is}
+use Rattle.frames_written_pace.proofs.Writing.{frame-is}
 use native.Mathlib.Omega.{arith}
 use borrow.Author.Tests.{lt-ltb, le-ltb}
 use lib.ListN.{length-set}
-use Rattle.frames_pace.specs.Written.{writtenOf}
-use Rattle.frames_pace.proofs.write_frame.Statement.{statement}
-use Rattle.frames_pace.proofs.write_frame.Tie as tie
+use Rattle.frames_written_pace.specs.Written.{writtenOf}
+use Rattle.frames_written_pace.proofs.write_frame.Statement.{statement}
+use Rattle.frames_written_pace.proofs.write_frame.Tie as tie
 
 refuse-requires : tie.Need-refuse-requires
 refuse-requires c κs = tt

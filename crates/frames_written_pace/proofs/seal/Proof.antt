@@ -1,10 +1,10 @@
--- `frames_pace::seal` meets its contract: the sum is taken of the lent part, and its characters and the last mark stand behind it.
+-- `frames_written_pace::seal` meets its contract: the sum is taken of the lent part, and its characters and the last mark stand behind it.
 -- Assumes nothing.
 use borrow.Author.Needs.{needs}
-use Rattle.frames_pace.proofs.Writing.{seal-is}
+use Rattle.frames_written_pace.proofs.Writing.{seal-is}
 use native.Mathlib.Omega.{arith}
-use Rattle.frames_pace.proofs.seal.Statement.{statement}
-use Rattle.frames_pace.proofs.seal.Tie as tie
+use Rattle.frames_written_pace.proofs.seal.Statement.{statement}
+use Rattle.frames_written_pace.proofs.seal.Tie as tie
 
 add-close65536 : tie.Need-add-close65536
 add-close65536 c = omega arith

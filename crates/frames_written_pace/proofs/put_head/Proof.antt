@@ -1,11 +1,11 @@
--- `frames_pace::put_head` meets its contract: a count below 4,096 has a LENGTH word, and the six bytes are written as characters.
+-- `frames_written_pace::put_head` meets its contract: a count below 4,096 has a LENGTH word, and the six bytes are written as characters.
 -- Assumes nothing.
 use Rattle.characters_pace.proofs.Carried.{hex-exact}
-use Rattle.frames_pace.proofs.Writing.{no-word, head-is}
+use Rattle.frames_written_pace.proofs.Writing.{no-word, head-is}
 use borrow.Author.Needs.{needs}
 use mathlib.Core.Path.{sym, _∙_}
-use Rattle.frames_pace.proofs.put_head.Statement.{statement}
-use Rattle.frames_pace.proofs.put_head.Tie as tie
+use Rattle.frames_written_pace.proofs.put_head.Statement.{statement}
+use Rattle.frames_written_pace.proofs.put_head.Tie as tie
 
 length-word-requires : tie.Need-length-word-requires
 length-word-requires c κs = tt
