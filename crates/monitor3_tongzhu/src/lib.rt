@@ -9,9 +9,8 @@ use signs::signed16;
 ghost use mathlib.Core.Path.{_≡_};
 ghost use Prim.Native.Nat.{_+_, _*_, _<_, _≤_};
 ghost use lib.ListN.{length, getD};
-ghost use lib.IntN.{pos};
-ghost use Rattle.monitor3_tongzhu.specs.Values.{numberAt, temperatureAt, statusAt, placesOf};
-ghost use Rattle.monitor3_tongzhu.specs.Layout.{Shaped, Within, shapeOf, monitor3Of, foundOf, foundAt, nowhere, placesBy, placesAt, noLists, listsIn, listsAt};
+ghost use Rattle.monitor3_tongzhu.specs.Values.{numberAt, statusAt};
+ghost use Rattle.monitor3_tongzhu.specs.Layout.{Shaped, shapeOf, monitor3Of, foundOf, foundAt, nowhere, placesBy, placesAt};
 
 // The battery status (6.1.3.1), byte by byte.
 pub struct Status {
@@ -98,14 +97,6 @@ fn numbers_of(q: &[u8]) -> Found
         Shape::Counted(k) => Found::Read(monitor3_of(q, k)),
         Shape::Wrong => Found::Refused(refuse(refusals::SHAPE)),
     }
-}
-
-// Reads their lists; where the fields are of the wrong shape, all are 0.
-pub fn read_lists(p: &[u8], at: usize) -> Lists
-    ensures { λ r. ⌜ r ≡ listsAt (now (p .entry)) at ⌝ }
-{
-    let w = find_lists(p, at);
-    lists_in(p, w)
 }
 
 // Says where their lists stand.
@@ -204,75 +195,6 @@ fn monitor3_of(q: &[u8], k: Counts) -> Monitor3
         capacity: number_at(q, tail + 4),
         switch: q[tail + 6],
     }
-}
-
-fn lists_in(p: &[u8], w: Places) -> Lists
-    requires { ⌜ Within (length (now p)) w ⌝ }
-    ensures { λ r. ⌜ r ≡ listsIn (now (p .entry)) w ⌝ }
-{
-    let cells = cells_of(p, w.cells_from, w.cells);
-    let balance = flags_of(p, w.balance_from, w.balance);
-    let sensors = temperatures_of(p, w.sensors_from, w.sensors);
-    let mosfets = temperatures_of(p, w.mosfets_from, w.mosfets);
-    Lists {
-        cells,
-        balance,
-        sensors,
-        mosfets,
-    }
-}
-
-pub fn no_lists() -> Lists
-    ensures { λ r. ⌜ r ≡ noLists ⌝ }
-{
-    Lists {
-        cells: [0u16; 32],
-        balance: [0u8; 4],
-        sensors: [0i8; 16],
-        mosfets: [0i8; 16],
-    }
-}
-
-// n cell voltages from the place `from` on.
-fn cells_of(q: &[u8], from: usize, n: usize) -> [u16; 32]
-    requires { ⌜ (n ≤ 32) × (from + 2 * n ≤ length (now q)) ⌝ }
-    ensures { λ r. ⌜ r ≡ placesOf 32 0 (λ i. numberAt (now (q .entry)) (from + 2 * i)) n ⌝ }
-{
-    let mut a = [0u16; 32];
-    let mut i = 0;
-    while i < n {
-        a[i] = number_at(q, from + 2 * i);
-        i += 1;
-    }
-    a
-}
-
-// n bytes of the balanced state from the place `from` on.
-fn flags_of(q: &[u8], from: usize, n: usize) -> [u8; 4]
-    requires { ⌜ (n ≤ 4) × (from + n ≤ length (now q)) ⌝ }
-    ensures { λ r. ⌜ r ≡ placesOf 4 0 (λ i. getD (now (q .entry)) (from + i) 0) n ⌝ }
-{
-    let mut a = [0u8; 4];
-    let mut i = 0;
-    while i < n {
-        a[i] = q[from + i];
-        i += 1;
-    }
-    a
-}
-
-// n temperatures from the place `from` on.
-fn temperatures_of(q: &[u8], from: usize, n: usize) -> [i8; 16]
-    requires { ⌜ (n ≤ 16) × (from + n ≤ length (now q)) ⌝ }
-    ensures { λ r. ⌜ r ≡ placesOf 16 (pos 0) (λ i. temperatureAt (now (q .entry)) (from + i)) n ⌝ }
-{
-    let mut a = [0i8; 16];
-    let mut i = 0;
-    while i < n {
-        a[i] = signed8(q[from + i]);
-        i += 1;
-    }
-    a
 }
 
 // The battery status at the place i.

@@ -1,4 +1,6 @@
 // Tongzhu replies as records (002, 6; 01, Tongzhu): what a reply to one of the functions 11, 12, 14, 15 and 30 says.
+use arrays_tongzhu::no_lists;
+use arrays_tongzhu::read_lists;
 use frames_tongzhu::Frame;
 use frames_tongzhu::Kind;
 use frames_tongzhu::kind_of;
@@ -7,8 +9,6 @@ use monitor3_tongzhu::Found;
 use monitor3_tongzhu::Lists;
 use monitor3_tongzhu::Monitor3;
 use monitor3_tongzhu::Status;
-use monitor3_tongzhu::no_lists;
-use monitor3_tongzhu::read_lists;
 use monitor3_tongzhu::read_numbers;
 use numbers::Order;
 use numbers::number16;

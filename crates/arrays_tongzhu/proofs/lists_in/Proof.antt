@@ -1,9 +1,9 @@
--- `monitor3_tongzhu::lists_in` meets its contract: the four lists are what the calls give.
+-- `arrays_tongzhu::lists_in` meets its contract: the four lists are what the calls give.
 -- Assumes nothing.
 use Rattle.monitor3_tongzhu.specs.Layout.{listsIn}
 use borrow.Author.Needs.{needs}
-use Rattle.monitor3_tongzhu.proofs.lists_in.Statement.{statement}
-use Rattle.monitor3_tongzhu.proofs.lists_in.Tie as tie
+use Rattle.arrays_tongzhu.proofs.lists_in.Statement.{statement}
+use Rattle.arrays_tongzhu.proofs.lists_in.Tie as tie
 
 cells-of-requires : tie.Need-cells-of-requires
 cells-of-requires c κs = search needs

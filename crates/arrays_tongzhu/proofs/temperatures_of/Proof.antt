@@ -1,4 +1,4 @@
--- `monitor3_tongzhu::temperatures_of` meets its contract: the loop has placed the first i temperatures, and 0 stands past them.
+-- `arrays_tongzhu::temperatures_of` meets its contract: the loop has placed the first i temperatures, and 0 stands past them.
 -- Assumes nothing.
 use mathlib.Core.Path.{_≡_, ap, _∙_}
 use Prim.Native.Nat.{ℕ, _+_, _-_, _≤_}
@@ -8,10 +8,10 @@ use lib.IntN.{pos}
 use mir.Syntax.{w8}
 use mir.Val.{toZ, ofZ}
 use Rattle.laws.specs.Firsts.{firsts}
-use Rattle.monitor3_tongzhu.proofs.Filled.{one-placed}
+use Rattle.arrays_tongzhu.proofs.Filled.{one-placed}
 use Rattle.monitor3_tongzhu.specs.Values.{temperatureAt, placesOf}
-use Rattle.monitor3_tongzhu.proofs.temperatures_of.Statement.{statement}
-use Rattle.monitor3_tongzhu.proofs.temperatures_of.Tie as tie
+use Rattle.arrays_tongzhu.proofs.temperatures_of.Statement.{statement}
+use Rattle.arrays_tongzhu.proofs.temperatures_of.Tie as tie
 
 abbrev Inv-loop : tie.InvT-loop
 Inv-loop q from n a₀ i₀ a i = (i ≤ n) × (a ≡ placesOf 16 (pos 0) (λ (k : ℕ). temperatureAt q (from + k)) i)

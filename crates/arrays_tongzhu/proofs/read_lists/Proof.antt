@@ -1,11 +1,11 @@
--- `monitor3_tongzhu::read_lists` meets its contract: the lists at the places that were found, which lie within the payload.
+-- `arrays_tongzhu::read_lists` meets its contract: the lists at the places that were found, which lie within the payload.
 -- Assumes nothing.
 use mathlib.Core.Path.{ap, _∙_}
 use Rattle.monitor3_tongzhu.proofs.Shapes.{places-within}
 use Rattle.monitor3_tongzhu.specs.Layout.{listsIn}
 use borrow.Author.Needs.{needs}
-use Rattle.monitor3_tongzhu.proofs.read_lists.Statement.{statement}
-use Rattle.monitor3_tongzhu.proofs.read_lists.Tie as tie
+use Rattle.arrays_tongzhu.proofs.read_lists.Statement.{statement}
+use Rattle.arrays_tongzhu.proofs.read_lists.Tie as tie
 
 find-lists-requires : tie.Need-find-lists-requires
 find-lists-requires c κs = search needs

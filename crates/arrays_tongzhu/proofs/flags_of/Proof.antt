@@ -1,4 +1,4 @@
--- `monitor3_tongzhu::flags_of` meets its contract: the loop has placed the first i bytes, and 0 stands past them.
+-- `arrays_tongzhu::flags_of` meets its contract: the loop has placed the first i bytes, and 0 stands past them.
 -- Assumes nothing.
 use mathlib.Core.Path.{_≡_, refl, ap, _∙_}
 use Prim.Native.Nat.{ℕ, _+_, _-_, _≤_}
@@ -6,10 +6,10 @@ use native.Mathlib.Omega.{arith}
 use borrow.Author.Needs.{needs}
 use lib.ListN.{getD}
 use Rattle.laws.specs.Firsts.{firsts}
-use Rattle.monitor3_tongzhu.proofs.Filled.{one-placed}
+use Rattle.arrays_tongzhu.proofs.Filled.{one-placed}
 use Rattle.monitor3_tongzhu.specs.Values.{placesOf}
-use Rattle.monitor3_tongzhu.proofs.flags_of.Statement.{statement}
-use Rattle.monitor3_tongzhu.proofs.flags_of.Tie as tie
+use Rattle.arrays_tongzhu.proofs.flags_of.Statement.{statement}
+use Rattle.arrays_tongzhu.proofs.flags_of.Tie as tie
 
 abbrev Inv-loop : tie.InvT-loop
 Inv-loop q from n a₀ i₀ a i = (i ≤ n) × (a ≡ placesOf 4 0 (λ (k : ℕ). getD q (from + k) 0) i)
