@@ -4,7 +4,6 @@ use numbers::Order;
 use numbers::number16;
 use refusals::Refusal;
 use refusals::refuse;
-use signs::signed8;
 use signs::signed16;
 ghost use mathlib.Core.Path.{_≡_};
 ghost use Prim.Native.Nat.{_+_, _*_, _<_, _≤_};
