@@ -7,14 +7,14 @@ use Rattle.restore_jobs.specs.declared.Job.{Job}
 use Rattle.restore_jobs.specs.declared.Opening.{Opening}
 use Rattle.restore_jobs.specs.declared.Opening.the-variants as opening
 use Rattle.restore_jobs.specs.declared.Opened.{Opened}
-use Rattle.restore_pathfinder.specs.declared.Step.{Step}
-use Rattle.restore_pathfinder.specs.declared.Step.the-variants as step
-use Rattle.restore_pathfinder.specs.declared.Stepped.{Stepped}
-use Rattle.restore_pathfinder.specs.declared.Outcome.{Outcome}
-use Rattle.restore_pathfinder.specs.declared.Outcome.the-variants as outcome
-use Rattle.restore_pathfinder.specs.declared.Answer.{Answer}
-use Rattle.restore_pathfinder.specs.declared.Answer.the-variants as answer
-use Rattle.restore_pathfinder.specs.declared.Heard.{Heard}
+use Rattle.restore_next.specs.declared.Step.{Step}
+use Rattle.restore_next.specs.declared.Step.the-variants as step
+use Rattle.restore_next.specs.declared.Stepped.{Stepped}
+use Rattle.restore_reply.specs.declared.Outcome.{Outcome}
+use Rattle.restore_reply.specs.declared.Outcome.the-variants as outcome
+use Rattle.restore_reply.specs.declared.Answer.{Answer}
+use Rattle.restore_reply.specs.declared.Answer.the-variants as answer
+use Rattle.restore_reply.specs.declared.Heard.{Heard}
 use Rattle.exports_rows.specs.Told.{codedAs}
 use Rattle.restore_bytes.specs.Jobs.{jobAfter}
 

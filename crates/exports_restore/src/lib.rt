@@ -1,22 +1,23 @@
 // The night restore for other languages (`rt staticlib exports_restore`): the job lives in bytes that the caller lends, 262 of them, and each call
-// is one of `restore_jobs` or `restore_pathfinder` on the job in them (`restore_bytes`). `specs/Steps.antt` says what each call answers.
+// is one of `restore_jobs`, `restore_next` or `restore_reply` on the job in them (`restore_bytes`). `specs/Steps.antt` says what each call answers.
 use exports_rows::coded;
 use restore_bytes::is_job;
 use restore_bytes::job_of;
 use restore_bytes::put_job;
 use restore_jobs::Opened;
 use restore_jobs::Opening;
-use restore_pathfinder::Answer;
-use restore_pathfinder::Heard;
-use restore_pathfinder::Outcome;
-use restore_pathfinder::Step;
-use restore_pathfinder::Stepped;
+use restore_next::Step;
+use restore_next::Stepped;
+use restore_reply::Answer;
+use restore_reply::Heard;
+use restore_reply::Outcome;
 ghost use mathlib.Core.Path.{_≡_};
 ghost use lib.ListN.{length};
 ghost use Rattle.laws.specs.Choice.{pick};
 ghost use Rattle.refusals.specs.Refused.{shape};
 ghost use Rattle.restore_jobs.specs.Jobs.{openOf, leftOf};
-ghost use Rattle.restore_pathfinder.specs.Calls.{nextOf, roomOf, heardOf};
+ghost use Rattle.restore_next.specs.Next.{nextOf, roomOf};
+ghost use Rattle.restore_reply.specs.Reply.{heardOf};
 ghost use Rattle.exports_rows.specs.Told.{codedAs};
 ghost use Rattle.restore_bytes.specs.Jobs.{isJob, sized, jobOf};
 ghost use Rattle.exports_restore.specs.Steps.{openedCode, openedJob, steppedCode, steppedJob, heardCode, heardJob};
@@ -47,7 +48,7 @@ pub extern "C" fn tracksaffron_restore_next(job: &mut [u8], out: &mut [u8]) -> u
     ensures room { λ r. ⌜ now (out .exit) ≡ pick (isJob (now (job .entry))) (roomOf (jobOf (now (job .entry))) (now (out .entry))) (now (out .entry)) ⌝ }
 {
     if is_job(job) {
-        stepped(restore_pathfinder::next(job_of(job), out), job)
+        stepped(restore_next::next(job_of(job), out), job)
     } else {
         NO_JOB
     }
@@ -60,7 +61,7 @@ pub extern "C" fn tracksaffron_restore_reply(job: &mut [u8], s: &[u8]) -> u64
     ensures kept { λ r. ⌜ now (job .exit) ≡ pick (isJob (now (job .entry))) (heardJob (heardOf (jobOf (now (job .entry))) (now (s .entry))) (now (job .entry))) (now (job .entry)) ⌝ }
 {
     if is_job(job) {
-        heard(restore_pathfinder::reply(job_of(job), s), job)
+        heard(restore_reply::reply(job_of(job), s), job)
     } else {
         NO_JOB
     }

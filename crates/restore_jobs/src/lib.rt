@@ -6,6 +6,7 @@ use restore_opening::judge;
 use restore_rules::count_left;
 ghost use mathlib.Core.Path.{_≡_};
 ghost use lib.ListN.{length};
+ghost use Rattle.restore_order.specs.Slots.{at};
 ghost use Rattle.restore_order.specs.Opening.{unopened};
 ghost use Rattle.restore_jobs.specs.Jobs.{openedAs, openOf, leftOf};
 
@@ -62,6 +63,13 @@ pub fn left(job: Job) -> usize
     let present = job.present;
     let wanted = job.wanted;
     count_left(&present, &wanted)
+}
+
+// The wanted value of a setting, 0 where there is none.
+pub fn wanted_value(wanted: [i32; 15], n: u8) -> i32
+    ensures { λ r. ⌜ r ≡ at wanted n ⌝ }
+{
+    if n < 15 { wanted[n as usize] } else { 0 }
 }
 
 fn not_opened(why: Refusal) -> Opened

@@ -3,7 +3,7 @@
 use mathlib.Core.Path.{_≡_, refl, sym, ap, _∙_}
 use mathlib.Core.Bool.{true, false}
 use lib.ListN.{length}
-use Rattle.restore_pathfinder.specs.Calls.{nextOf, roomOf}
+use Rattle.restore_next.specs.Next.{nextOf, roomOf}
 use Rattle.restore_bytes.specs.Jobs.{isJob}
 use Rattle.exports_restore.specs.Steps.{steppedCode, steppedJob}
 use borrow.Author.Needs.{needs}

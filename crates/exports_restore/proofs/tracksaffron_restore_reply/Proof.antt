@@ -2,7 +2,7 @@
 -- Assumes nothing.
 use mathlib.Core.Path.{_≡_, refl, sym, ap, _∙_}
 use mathlib.Core.Bool.{true, false}
-use Rattle.restore_pathfinder.specs.Calls.{heardOf}
+use Rattle.restore_reply.specs.Reply.{heardOf}
 use Rattle.restore_bytes.specs.Jobs.{isJob}
 use Rattle.exports_restore.specs.Steps.{heardCode, heardJob}
 use borrow.Author.Needs.{needs}

@@ -1,0 +1,104 @@
+-- `next` meets its contract. Each way out is a law of `Steps`; the write's value is handed on by its bits, which read back.
+-- Assumes nothing.
+use mathlib.Core.Path.{_≡_, sym, ap, _∙_}
+use lib.IntN.{ℤ}
+use lib.ListN.{length}
+use mir.Syntax.{w32}
+use mir.Val.{ofZ, toZ}
+use borrow.Author.Needs.{needs}
+use Rattle.requests_pathfinder.specs.declared.Request.the-variants.{Write}
+use Rattle.requests_pathfinder.specs.Requests.{sentAs, roomAfter}
+use Rattle.restore_order.specs.Slots.{at}
+use Rattle.restore_rules.proofs.Numbers.{from-bits}
+use Rattle.restore_next.proofs.Steps.{out-of-turn, nothing-to-write, no-room, one-write}
+use Rattle.restore_next.proofs.next.Statement.{statement}
+use Rattle.restore_next.proofs.next.Tie as tie
+
+enum-told : tie.Need-enum-told
+enum-told c = search needs
+
+declined-requires : tie.Need-declined-requires
+declined-requires c κs = search needs
+
+returns : tie.Need-returns
+returns c =
+    let a = c .before .before .before .args in
+    rw (c .declined .ensures) (out-of-turn (a .job) (a .out .now) (c .before .match .keys2))
+
+first-write-requires : tie.Need-first-write-requires
+first-write-requires c κs = search needs
+
+enum-known-register : tie.Need-enum-known-register
+enum-known-register c = search needs
+
+enum-told-2 : tie.Need-enum-told-2
+enum-told-2 c = search needs
+
+returns-2 : tie.Need-returns-2
+returns-2 c =
+    let f = c .before .before in
+    let t = f .before .before .before .before .before in
+    let a = t .before .before .before .args in
+    nothing-to-write (a .job) (a .out .now) (t .enum-told .given .1) (sym (f .first-write .ensures) ∙ c .enum-told2 .given .1)
+
+declined-requires-2 : tie.Need-declined-requires-2
+declined-requires-2 c κs = search needs
+
+returns-3 : tie.Need-returns-3
+returns-3 c =
+    let g = c .before .before .before in
+    let f = g .before .before in
+    let t = f .before .before .before .before .before in
+    let a = t .before .before .before .args in
+    rw (c .declined2 .ensures)
+    (no-room (a .job) (a .out .now) (t .enum-told .given .1) (g .register .given .0 .0) (sym (f .first-write .ensures) ∙ g .register .given .1) (c .before .if1 .taken))
+
+wanted-value-requires : tie.Need-wanted-value-requires
+wanted-value-requires c κs = search needs
+
+write-set-requires : tie.Need-write-set-requires
+write-set-requires c κs = search needs
+
+sent-requires : tie.Need-sent-requires
+sent-requires c κs = search needs
+
+same-length : tie.Need-same-length
+same-length c = search needs
+
+returns-4 : tie.Need-returns-4
+returns-4 c =
+    let x = c .before .before .before in
+    let v = x .before .before in
+    let g = v .before .before .before in
+    let f = g .before .before in
+    let t = f .before .before .before .before .before in
+    let a = t .before .before .before .args in
+    let r = g .register .given .0 .0 in
+    let e : toZ w32 (ofZ w32 (v .wanted-value .result)) ≡ at (a .job .wanted) r = from-bits (v .wanted-value .result) (v .wanted-value .ok) ∙ v .wanted-value .ensures in
+    let answer : x .write-set .result ≡ sentAs (Write r (at (a .job .wanted) r)) (length (a .out .now)) =
+    x .write-set .ensures .0 ∙ ap (λ (z : ℤ). sentAs (Write r z) (length (a .out .now))) e in
+    let room : x .write-set .last .1 .1 .0 ≡ roomAfter (x .write-set .result) (Write r (at (a .job .wanted) r)) (a .out .now) =
+    x .write-set .ensures .1 ∙ ap (λ (z : ℤ). roomAfter (x .write-set .result) (Write r z) (a .out .now)) e in
+    let all =
+    one-write (a .job) (a .out .now) (t .enum-told .given .1) r (sym (f .first-write .ensures) ∙ g .register .given .1) (v .before .if1 .left)
+    (x .write-set .result) answer in
+    (c .sent .ensures ∙ all .0, room ∙ all .1)
+
+pub next-spec : {M : Type 1} → statement M
+next-spec =
+    tie.close
+    (tie.spec
+    enum-told
+    declined-requires
+    returns
+    first-write-requires
+    enum-known-register
+    enum-told-2
+    returns-2
+    declined-requires-2
+    returns-3
+    wanted-value-requires
+    write-set-requires
+    sent-requires
+    same-length
+    returns-4)
