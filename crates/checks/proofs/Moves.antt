@@ -1,15 +1,14 @@
--- Sixteen moves of the register in closed form. Both sides are linear, so that they agree on every register if they agree on each low byte and
--- on each high byte alone: a test that antt computes over the 256 of each.
+-- Sixteen moves of the register in closed form. Both sides are linear, so that they agree on every register if they agree on each of its bits
+-- alone: a test that antt computes over the sixteen.
 -- Assumes nothing.
 use mathlib.Core.Path.{_≡_, refl, sym, ap, ap₂, _∙_, subst}
-use mathlib.Core.Bool.{_&&_}
-use Prim.Native.Nat.{ℕ, _*_, _/_, _%_, _^_, _<_}
-use native.Mathlib.Nat.{mod-lt}
-use native.Mathlib.Omega.{arith}
-use lib.Bits.{bitXor, xor-mod, xor-shr, xor-shifted}
+use Prim.Native.Nat.{ℕ, zero, suc, _*_, _/_, _%_, _^_, _<_}
+use native.Mathlib.Nat.{mod-lt, zero-mul, one-mul, le-of-suc-le-suc, not-suc-le-zero}
+use native.Mathlib.Numerals.{one-add}
+use lib.Bits.{bitXor, xor-self, xor-mod, xor-shr, xor-shifted}
 use lib.Dec.{T, eqb, eqb→eq}
-use lib.Pow.{pow-pos, split}
-use Rattle.laws.proofs.Below.{below, each, both-left, both-right}
+use lib.Pow.{pow-pos, split, shr-lt}
+use Rattle.laws.proofs.Below.{below, both-left, both-right}
 use Rattle.checks.specs.Crc.{shift, shifts}
 use Rattle.checks.proofs.Xor.{xor-shl, xor-swap}
 use Rattle.checks.proofs.Linear.{shifts-xor, shifts-lt}
@@ -44,17 +43,27 @@ then {f} {g} p q = record { of-both = λ a b. ap g (p .of-both a b) ∙ q .of-bo
 
 -- ---- where two linear functions agree
 
-pub agree : (f g : ℕ → ℕ) → Linear f → Linear g
-    → T (below (λ k. eqb (f (k * 256)) (g (k * 256)) && eqb (f k) (g k)) 256) → (x : ℕ) → x < 65536 → f x ≡ g x
-agree f g p q t x h =
-    let high = x / 256 in
-    let rest = x % 256 in
-    let parts : bitXor (high * 256) rest ≡ x = xor-shifted high 8 rest (mod-lt x (pow-pos 8)) ∙ split x 8 in
-    let th = each (λ k. eqb (f (k * 256)) (g (k * 256)) && eqb (f k) (g k)) 256 t high (omega arith) in
-    let tl = each (λ k. eqb (f (k * 256)) (g (k * 256)) && eqb (f k) (g k)) 256 t rest (omega arith) in
-    let eh = eqb→eq (f (high * 256)) (g (high * 256)) (both-left (eqb (f (high * 256)) (g (high * 256))) (eqb (f high) (g high)) th) in
-    let el = eqb→eq (f rest) (g rest) (both-right (eqb (f (rest * 256)) (g (rest * 256))) (eqb (f rest) (g rest)) tl) in
-    ap f (sym parts) ∙ p .of-both (high * 256) rest ∙ ap₂ bitXor eh el ∙ sym (q .of-both (high * 256) rest) ∙ ap g parts
+none-to-none : {f : ℕ → ℕ} → Linear f → f 0 ≡ 0
+none-to-none {f} p = p .of-both 0 0 ∙ xor-self (f 0)
+
+-- on each bit below n, and so on each number below 2 ^ n
+pub agree : (f g : ℕ → ℕ) → Linear f → Linear g → (n : ℕ) → T (below (λ k. eqb (f (2 ^ k)) (g (2 ^ k))) n) → (x : ℕ) → x < 2 ^ n → f x ≡ g x
+unfolding below
+agree f g p q zero t zero h = none-to-none p ∙ sym (none-to-none q)
+agree f g p q zero t (suc x) h = absurd (not-suc-le-zero (le-of-suc-le-suc h))
+agree f g p q (suc n) t x h =
+    let parts : bitXor (x / 2 ^ n * 2 ^ n) (x % 2 ^ n) ≡ x = xor-shifted (x / 2 ^ n) n (x % 2 ^ n) (mod-lt x (pow-pos n)) ∙ split x n in
+    let rest = agree f g p q n (both-right (eqb (f (2 ^ n)) (g (2 ^ n))) (below (λ k. eqb (f (2 ^ k)) (g (2 ^ k))) n) t) (x % 2 ^ n) (mod-lt x (pow-pos n)) in
+    ap f (sym parts) ∙ p .of-both (x / 2 ^ n * 2 ^ n) (x % 2 ^ n) ∙ ap₂ bitXor (bit (x / 2 ^ n) (shr-lt 1 n (subst (λ (k : ℕ). x < 2 ^ k) (sym (one-add n)) h))) rest
+    ∙ sym (q .of-both (x / 2 ^ n * 2 ^ n) (x % 2 ^ n)) ∙ ap g parts
+  where
+    alone : f (2 ^ n) ≡ g (2 ^ n)
+    alone = eqb→eq (f (2 ^ n)) (g (2 ^ n)) (both-left (eqb (f (2 ^ n)) (g (2 ^ n))) (below (λ k. eqb (f (2 ^ k)) (g (2 ^ k))) n) t)
+
+    bit : (b : ℕ) → b < 2 → f (b * 2 ^ n) ≡ g (b * 2 ^ n)
+    bit zero l = rw (zero-mul (2 ^ n)) (none-to-none p ∙ sym (none-to-none q))
+    bit (suc zero) l = rw (one-mul (2 ^ n)) alone
+    bit (suc (suc b)) l = absurd (not-suc-le-zero (le-of-suc-le-suc (le-of-suc-le-suc l)))
 
 -- ---- the closed form
 
@@ -76,7 +85,7 @@ pub sixteen-moves : (x : ℕ) → x < 65536 → spread (mixed x) ≡ shifts 8 (s
 unfolding mixed spread below shifts shift
 sixteen-moves =
     agree (λ x. spread (mixed x)) (λ x. shifts 8 (shifts 8 x)) (then mixed-linear spread-linear)
-    (then (moved 8) (moved 8)) tt
+    (then (moved 8) (moved 8)) 16 tt
 
 pub spread-lt : (x : ℕ) → x < 65536 → spread (mixed x) < 65536
 spread-lt x h = subst (λ (y : ℕ). y < 65536) (sym (sixteen-moves x h)) (shifts-lt 8 (shifts 8 x) (shifts-lt 8 x h))
@@ -97,4 +106,4 @@ eighth-linear =
 
 pub eight-moves : (x : ℕ) → x < 65536 → eighth x ≡ shifts 8 x
 unfolding eighth below shifts shift
-eight-moves = agree eighth (shifts 8) eighth-linear (moved 8) tt
+eight-moves = agree eighth (shifts 8) eighth-linear (moved 8) 16 tt
