@@ -17,9 +17,9 @@ const LONGEST: usize = 16384;
 // As much is kept of a line whose end has not come: a line that has filled it is too long, whatever comes behind it.
 const KEPT: usize = 16386;
 
-// What is kept from read to read: how many bytes of a line have come, and whether the input is at its end.
-struct Turn {
-    had: usize,
+// How many bytes of input are there, and whether it is at its end.
+struct Come {
+    n: usize,
     ended: bool,
 }
 
@@ -46,7 +46,8 @@ fn main() {
     );
 }
 
-// Reads until the input ends. Every loop must be shown to stop, so this one has a limit of reads, far above what any input takes.
+// Reads until the input ends, and answers the lines that ended in what came. Every loop must be shown to stop, so this one has a limit of reads,
+// far above what any input takes.
 fn talk(
     input: &mut [u8],
     bytes: &mut [u8],
@@ -55,14 +56,15 @@ fn talk(
     job: &mut [u8],
     out: &mut [u8],
 ) {
-    let mut t = Turn {
-        had: 0,
-        ended: false,
-    };
+    let mut had = 0;
     let mut turns = u64::MAX;
     while turns > 0 {
-        t = read_once(input, bytes, string, row, job, out, t.had);
-        turns = fewer(turns, t.ended);
+        let come = read_on(input, had);
+        let lines = words::given(input, come.n as u64);
+        let done = answer_all(lines, bytes, string, row, job, out);
+        flush(out, done.at);
+        had = to_front(input, done.from, come.n);
+        turns = fewer(turns, come.ended);
     }
 }
 
@@ -73,42 +75,32 @@ fn fewer(turns: u64, ended: bool) -> u64
     if ended { 0 } else { turns - 1 }
 }
 
-// Reads once and answers the lines that ended. Where nothing came the input is at its end, and what is left is its last line.
-fn read_once(
-    input: &mut [u8],
-    bytes: &mut [u8],
-    string: &mut [u8],
-    row: &mut [i32],
-    job: &mut [u8],
-    out: &mut [u8],
-    had: usize,
-) -> Turn {
-    let n = read_on(input, had);
-    let come = words::given(input, n as u64);
-    if n <= had {
-        let last = answer(come, bytes, string, row, job, out, 0);
-        flush(out, last);
-        return Turn {
-            had: 0,
-            ended: true,
-        };
+// Reads once, behind the bytes that are there. Where nothing came the input is at its end, and what is left is its last line.
+fn read_on(input: &mut [u8], had: usize) -> Come {
+    let n = read_behind(input, had);
+    if had < n {
+        return Come { n, ended: false };
     }
-    let done = answer_all(come, bytes, string, row, job, out);
-    flush(out, done.at);
-    Turn {
-        had: to_front(input, done.from, n),
-        ended: false,
+    Come {
+        n: end_line(input, had),
+        ended: true,
     }
 }
 
-// Reads once, behind the bytes that are there; how many there are then.
-fn read_on(input: &mut [u8], had: usize) -> usize {
+// How many bytes there are after a read.
+fn read_behind(input: &mut [u8], had: usize) -> usize {
     if input.len() < had {
         return had;
     }
     let rest = &mut input[had..];
     let got = libc::read(STDIN_FILENO, rest);
     had + io::count(got, rest)
+}
+
+// The end that the last line lacks. A carriage return belongs to it, so that none of the line's own does.
+fn end_line(input: &mut [u8], had: usize) -> usize {
+    let feed = text::put(input, had, b'\r');
+    text::put(input, feed, b'\n')
 }
 
 // Answers each line that ends in the input.
@@ -159,13 +151,26 @@ fn answer(
     let call = calls::with_job(call_of(line, bytes, row, &mut v), job);
     match call {
         Call::Number(k) => {
-            let s = words::given(bytes, v[words::GIVEN]);
-            let code = calls::make(k, v, s, words::lent(string, v[words::ROOM]), row, job);
+            let code = made(k, v, bytes, string, row, job);
             lines::put_answer(out, at, k, code, row, string)
         }
         Call::Faulty(f) => text::put_fault(out, at, f),
         Call::Nothing => at,
     }
+}
+
+// The call, on the bytes that were given and with the room that was named.
+fn made(
+    k: usize,
+    v: [u64; 10],
+    bytes: &[u8],
+    string: &mut [u8],
+    row: &mut [i32],
+    job: &mut [u8],
+) -> u64 {
+    let s = words::given(bytes, v[words::GIVEN]);
+    let room = words::lent(string, v[words::ROOM]);
+    calls::make(k, v, s, room, row, job)
 }
 
 fn call_of(line: &[u8], bytes: &mut [u8], row: &mut [i32], values: &mut [u64; 10]) -> Call {

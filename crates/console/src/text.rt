@@ -233,7 +233,7 @@ fn digit(n: u8) -> u8 {
 
 // ---- bytes
 
-fn put(out: &mut [u8], at: usize, b: u8) -> usize {
+pub fn put(out: &mut [u8], at: usize, b: u8) -> usize {
     if at < out.len() {
         out[at] = b;
         at + 1

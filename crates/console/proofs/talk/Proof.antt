@@ -7,16 +7,28 @@ use Rattle.console.proofs.talk.Statement.{statement}
 use Rattle.console.proofs.talk.Tie as tie
 
 abbrev Inv-loop : tie.InvT-loop
-Inv-loop input₀ bytes₀ string₀ row₀ job₀ out₀ t₀ turns₀ input bytes string row job out t turns = (length input ≡ length input₀) × (length bytes ≡ length bytes₀) × (length string ≡ length string₀) × (length row ≡ length row₀) × (length job ≡ length job₀) × (length out ≡ length out₀)
+Inv-loop input₀ bytes₀ string₀ row₀ job₀ out₀ had₀ turns₀ input bytes string row job out had turns = (length input ≡ length input₀) × (length bytes ≡ length bytes₀) × (length string ≡ length string₀) × (length row ≡ length row₀) × (length job ≡ length job₀) × (length out ≡ length out₀)
 
 abbrev μ-loop : tie.MeasureT-loop
-μ-loop input₀ bytes₀ string₀ row₀ job₀ out₀ t₀ turns₀ input bytes string row job out t turns = turns
+μ-loop input₀ bytes₀ string₀ row₀ job₀ out₀ had₀ turns₀ input bytes string row job out had turns = turns
 
 loop-holds : tie.Need-loop-holds Inv-loop μ-loop
 loop-holds c = search needs
 
-read-once-requires : tie.Need-read-once-requires Inv-loop μ-loop
-read-once-requires c κs = search needs
+read-on-requires : tie.Need-read-on-requires Inv-loop μ-loop
+read-on-requires c κs = search needs
+
+given-requires : tie.Need-given-requires Inv-loop μ-loop
+given-requires c κs = search needs
+
+answer-all-requires : tie.Need-answer-all-requires Inv-loop μ-loop
+answer-all-requires c κs = search needs
+
+flush-requires : tie.Need-flush-requires Inv-loop μ-loop
+flush-requires c κs = search needs
+
+to-front-requires : tie.Need-to-front-requires Inv-loop μ-loop
+to-front-requires c κs = search needs
 
 fewer-requires : tie.Need-fewer-requires Inv-loop μ-loop
 fewer-requires c κs = search needs
@@ -55,7 +67,11 @@ talk-spec =
     Inv-loop
     μ-loop
     loop-holds
-    read-once-requires
+    read-on-requires
+    given-requires
+    answer-all-requires
+    flush-requires
+    to-front-requires
     fewer-requires
     loop-less
     loop-again
