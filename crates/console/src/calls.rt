@@ -12,9 +12,7 @@ use exports_checks::tracksaffron_crc16;
 use exports_old58::tracksaffron_old_read;
 use exports_pace::tracksaffron_pace_read;
 use exports_pathfinder::tracksaffron_pf_find;
-use exports_pathfinder::tracksaffron_pf_millivolts;
 use exports_pathfinder::tracksaffron_pf_read;
-use exports_pathfinder::tracksaffron_pf_row;
 use exports_requests_pace::tracksaffron_pace_ask;
 use exports_requests_pace::tracksaffron_pace_cell_overvoltage;
 use exports_requests_pace::tracksaffron_pace_parse;
@@ -30,6 +28,8 @@ use exports_restore::tracksaffron_restore_next;
 use exports_restore::tracksaffron_restore_open;
 use exports_restore::tracksaffron_restore_reply;
 use exports_tongzhu::tracksaffron_tz_read;
+use exports_values_pathfinder::tracksaffron_pf_millivolts;
+use exports_values_pathfinder::tracksaffron_pf_row;
 
 // The call with these parameters, on the bytes that the line gave.
 pub fn make(

@@ -1,9 +1,9 @@
 -- `exports_pathfinder::bit` meets its contract: by the two cases.
 -- Assumes nothing.
 use mathlib.Core.Path.{sym, ap}
-use Rattle.exports_pathfinder.specs.Codes.{truthOf}
-use Rattle.exports_pathfinder.proofs.bit.Statement.{statement}
-use Rattle.exports_pathfinder.proofs.bit.Tie as tie
+use Rattle.exports_values_pathfinder.specs.Values.{truthOf}
+use Rattle.exports_values_pathfinder.proofs.bit.Statement.{statement}
+use Rattle.exports_values_pathfinder.proofs.bit.Tie as tie
 
 returns : tie.Need-returns
 returns c = ap truthOf (sym (c .if1 .taken))

@@ -6,10 +6,10 @@ use mir.Syntax.{w32}
 use mir.ValLaws.{toZ-ofZ}
 use Rattle.rows_pathfinder.specs.Narrowing.{rowOf}
 use Rattle.exports_rows.specs.Told.{codeOf, rowAfter}
-use Rattle.exports_pathfinder.specs.Codes.{toldRow}
+use Rattle.exports_values_pathfinder.specs.Values.{toldRow}
 use borrow.Author.Needs.{needs}
-use Rattle.exports_pathfinder.proofs.tracksaffron_pf_row.Statement.{statement}
-use Rattle.exports_pathfinder.proofs.tracksaffron_pf_row.Tie as tie
+use Rattle.exports_values_pathfinder.proofs.tracksaffron_pf_row.Statement.{statement}
+use Rattle.exports_values_pathfinder.proofs.tracksaffron_pf_row.Tie as tie
 
 narrow-requires : tie.Need-narrow-requires
 narrow-requires c κs = search needs

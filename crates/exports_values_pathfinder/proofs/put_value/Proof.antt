@@ -10,8 +10,8 @@ use mir.ValLaws.{toZ-ofZ}
 use Rattle.laws.proofs.Filling.{one-more}
 use Rattle.exports_rows.proofs.Placing.{no-room, kind-told, values-over}
 use borrow.Author.Needs.{needs}
-use Rattle.exports_pathfinder.proofs.put_value.Statement.{statement}
-use Rattle.exports_pathfinder.proofs.put_value.Tie as tie
+use Rattle.exports_values_pathfinder.proofs.put_value.Statement.{statement}
+use Rattle.exports_values_pathfinder.proofs.put_value.Tie as tie
 
 cast-result : tie.Need-cast-result
 cast-result c = search needs

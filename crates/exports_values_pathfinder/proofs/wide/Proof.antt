@@ -5,8 +5,8 @@ use mir.Val.{SFits}
 use mir.Facts.{sfits-widen}
 use Rattle.widths.proofs.Widening.{wide-fits, wide-held}
 use borrow.Author.Needs.{needs}
-use Rattle.exports_pathfinder.proofs.wide.Statement.{statement}
-use Rattle.exports_pathfinder.proofs.wide.Tie as tie
+use Rattle.exports_values_pathfinder.proofs.wide.Statement.{statement}
+use Rattle.exports_values_pathfinder.proofs.wide.Tie as tie
 
 cast-result : tie.Need-cast-result
 cast-result c =

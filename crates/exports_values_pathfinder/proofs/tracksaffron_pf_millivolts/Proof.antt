@@ -5,10 +5,10 @@ use mir.Syntax.{w16, w32}
 use mir.Val.{toZ, ofZ}
 use mir.ValLaws.{toZ-ofZ}
 use Rattle.rows_pathfinder.specs.declared.Millivolts.{Millivolts}
-use Rattle.exports_pathfinder.specs.Codes.{millivoltsIn}
+use Rattle.exports_values_pathfinder.specs.Values.{millivoltsIn}
 use borrow.Author.Needs.{needs}
-use Rattle.exports_pathfinder.proofs.tracksaffron_pf_millivolts.Statement.{statement}
-use Rattle.exports_pathfinder.proofs.tracksaffron_pf_millivolts.Tie as tie
+use Rattle.exports_values_pathfinder.proofs.tracksaffron_pf_millivolts.Statement.{statement}
+use Rattle.exports_values_pathfinder.proofs.tracksaffron_pf_millivolts.Tie as tie
 
 millivolts-of-requires : tie.Need-millivolts-of-requires
 millivolts-of-requires c κs = search needs

@@ -5,10 +5,10 @@ use mir.Syntax.{w64}
 use mir.Val.{toZ, ofZ}
 use Rattle.exports_rows.proofs.Same.{then}
 use Rattle.exports_rows.proofs.Telling.{told-numbers}
-use Rattle.exports_pathfinder.specs.Codes.{toldRow}
+use Rattle.exports_values_pathfinder.specs.Values.{toldRow}
 use borrow.Author.Needs.{needs}
-use Rattle.exports_pathfinder.proofs.tell_row.Statement.{statement}
-use Rattle.exports_pathfinder.proofs.tell_row.Tie as tie
+use Rattle.exports_values_pathfinder.proofs.tell_row.Statement.{statement}
+use Rattle.exports_values_pathfinder.proofs.tell_row.Tie as tie
 
 enum-known-r : tie.Need-enum-known-r
 enum-known-r c = search needs
