@@ -1,7 +1,7 @@
 // Pathfinder requests (000, List of Instruction Opcodes and 0x0E Write parameter register; 01, Pathfinder): 01 to 05 without data, 0E with a
 // register and a signed value, written as frames. `requests_read_pathfinder` reads them again.
-use frames_pathfinder::begin;
-use frames_pathfinder::seal;
+use frames_written_pathfinder::begin;
+use frames_written_pathfinder::seal;
 use numbers::Order;
 use numbers::bytes32;
 use refusals::Written;

@@ -24,10 +24,10 @@ use Rattle.signs.proofs.Signs.{bits-read-back, signed-written-back}
 use Rattle.frames_pathfinder.specs.declared.Frame.{Frame}
 use Rattle.frames_pathfinder.specs.declared.Frame.the-variants.{Whole, Refused as NoFrame}
 use Rattle.frames_pathfinder.specs.Reading.{frameOf}
-use Rattle.frames_pathfinder.specs.Writing.{frameBytes}
 use Rattle.frames_pathfinder.proofs.Ladder.{whole-parts}
-use Rattle.frames_pathfinder.proofs.ReadBack.{frame-reads-back, frame-writes-back, payload-back}
-use Rattle.frames_pathfinder.proofs.Writers.{frame-length}
+use Rattle.frames_written_pathfinder.specs.Writing.{frameBytes}
+use Rattle.frames_written_pathfinder.proofs.ReadBack.{frame-reads-back, frame-writes-back, payload-back}
+use Rattle.frames_written_pathfinder.proofs.Writers.{frame-length}
 use Rattle.registers_pathfinder.specs.Registers.{count, inRange}
 use Rattle.records_pathfinder.specs.Words.{wordOf}
 use Rattle.records_pathfinder.specs.Replies.{payloadOf}
