@@ -4,8 +4,8 @@ use mathlib.Core.List.{[], _∷_}
 use lib.IntN.{pos}
 use Rattle.requests_pathfinder.specs.declared.Request.{Request}
 use Rattle.requests_pathfinder.specs.declared.Request.the-variants.{Ask, Write}
-use Rattle.requests_pathfinder.specs.declared.Parsed.{Parsed}
-use Rattle.requests_pathfinder.specs.declared.Parsed.the-variants as parsed
+use Rattle.requests_read_pathfinder.specs.declared.Parsed.{Parsed}
+use Rattle.requests_read_pathfinder.specs.declared.Parsed.the-variants as parsed
 use Rattle.exports_rows.specs.Told.{Told, numbers, refused}
 
 -- 1 a request without data: its opcode; 2 one that sets a register: the register and the value

@@ -2,15 +2,15 @@
 // input. `specs/Codes.antt` says which number a request that was read goes out as.
 use exports_rows::put_numbers;
 use exports_rows::written_number;
-use requests_pathfinder::Parsed;
 use requests_pathfinder::Request;
-use requests_pathfinder::read_request;
 use requests_pathfinder::write_ask;
 use requests_pathfinder::write_set;
+use requests_read_pathfinder::Parsed;
+use requests_read_pathfinder::read_request;
 ghost use mathlib.Core.Path.{_≡_};
 ghost use lib.ListN.{length};
 ghost use Rattle.requests_pathfinder.specs.Requests.{sentAs, roomAfter};
-ghost use Rattle.requests_pathfinder.specs.Reading.{requestOf};
+ghost use Rattle.requests_read_pathfinder.specs.Reading.{requestOf};
 ghost use Rattle.exports_rows.specs.Told.{codeOf, rowAfter};
 ghost use Rattle.exports_rows.specs.Writing.{writtenCode};
 ghost use Rattle.exports_requests_pathfinder.specs.Codes.{toldFields, toldRequest};

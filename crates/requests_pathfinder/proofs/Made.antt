@@ -10,8 +10,8 @@ use lib.IntN.{ℤ}
 use lib.ListN.{length, drop}
 use Rattle.refusals.specs.declared.Written.the-variants.{Frame, Refused}
 use Rattle.refusals.specs.Refused.{refusedWith, room}
-use Rattle.frames_pathfinder.specs.Writing.{headOf, begun, sealed}
-use Rattle.frames_pathfinder.proofs.Writers.{begun-front, frame-made}
+use Rattle.frames_written_pathfinder.specs.Writing.{headOf, begun, sealed}
+use Rattle.frames_written_pathfinder.proofs.Writers.{begun-front, frame-made}
 use Rattle.requests_pathfinder.specs.declared.Request.{Request}
 use Rattle.requests_pathfinder.specs.declared.Request.the-variants.{Ask, Write}
 use Rattle.requests_pathfinder.specs.Requests.{loadOf, setLoad, frameFor, writtenAs}

@@ -13,7 +13,7 @@ use Rattle.refusals.specs.Refused.{refusedWith, request, shape, range, register
 use Rattle.numbers.specs.declared.Order.the-variants.{LowFirst}
 use Rattle.numbers.specs.Bytes.{bytesOf}
 use Rattle.signs.specs.Signed.{bitsOf}
-use Rattle.frames_pathfinder.specs.Writing.{frameBytes}
+use Rattle.frames_written_pathfinder.specs.Writing.{frameBytes}
 use Rattle.registers_pathfinder.specs.Registers.{count, inRange}
 use Rattle.requests_pathfinder.specs.declared.Request.{Request}
 use Rattle.requests_pathfinder.specs.declared.Request.the-variants.{Ask, Write}

@@ -1,13 +1,9 @@
 // Pathfinder requests (000, List of Instruction Opcodes and 0x0E Write parameter register; 01, Pathfinder): 01 to 05 without data, 0E with a
-// register and a signed value, written as frames and read again.
-use frames_pathfinder::Frame;
-use frames_pathfinder::begin;
-use frames_pathfinder::read_frame;
-use frames_pathfinder::seal;
+// register and a signed value, written as frames. `requests_read_pathfinder` reads them again.
+use frames_written_pathfinder::begin;
+use frames_written_pathfinder::seal;
 use numbers::Order;
 use numbers::bytes32;
-use records_pathfinder::word;
-use refusals::Refusal;
 use refusals::Written;
 use refusals::refuse;
 use registers_pathfinder::in_range;
@@ -17,18 +13,12 @@ ghost use mathlib.Core.Path.{_≡_};
 ghost use lib.ListN.{length};
 ghost use Rattle.refusals.specs.Refused.{refusedWith};
 ghost use Rattle.requests_pathfinder.specs.Requests.{setLoad, faultOf, sentAs, writtenAs, roomAfter};
-ghost use Rattle.requests_pathfinder.specs.Reading.{parsedSet, parsedOf, requestOf};
 
 pub enum Request {
     // A request without data, by its opcode.
     Ask(u8),
     // Request 0E.
     Write { register: u8, value: i32 },
-}
-
-pub enum Parsed {
-    Is(Request),
-    Refused(Refusal),
 }
 
 // Writes a request's frame at the front of the room; bytes after it keep their contents, and a refusal changes nothing.
@@ -39,17 +29,6 @@ pub fn write_request(q: Request, out: &mut [u8]) -> Written
     match q {
         Request::Ask(opcode) => write_ask(opcode, out),
         Request::Write { register, value } => write_set(register, value, out),
-    }
-}
-
-// Reads a request.
-pub fn read_request(s: &[u8]) -> Parsed
-    ensures { λ r. ⌜ r ≡ requestOf (now (s .entry)) ⌝ }
-{
-    let f = read_frame(s);
-    match f {
-        Frame::Refused(r) => Parsed::Refused(r),
-        Frame::Whole { opcode, start, len } => parse(opcode, &s[start..start + len]),
     }
 }
 
@@ -144,49 +123,8 @@ fn put_set(register: u8, value: i32, out: &mut [u8])
     out[4] = b[3];
 }
 
-fn parse(opcode: u8, load: &[u8]) -> Parsed
-    ensures { λ r. ⌜ r ≡ parsedOf opcode (now (load .entry)) ⌝ }
-{
-    if opcode == 0x0E {
-        return parse_set(load);
-    }
-    if opcode < 1 {
-        return not_parsed(refusals::REQUEST);
-    }
-    if 5 < opcode {
-        return not_parsed(refusals::REQUEST);
-    }
-    if load.len() != 0 {
-        return not_parsed(refusals::SHAPE);
-    }
-    Parsed::Is(Request::Ask(opcode))
-}
-
-fn parse_set(load: &[u8]) -> Parsed
-    ensures { λ r. ⌜ r ≡ parsedSet (now (load .entry)) ⌝ }
-{
-    if load.len() != 5 {
-        return not_parsed(refusals::SHAPE);
-    }
-    let register = load[0];
-    let value = word(load[1], load[2], load[3], load[4]);
-    if !is_register(register) {
-        return not_parsed(refusals::REGISTER);
-    }
-    if !in_range(register, value) {
-        return not_parsed(refusals::RANGE);
-    }
-    Parsed::Is(Request::Write { register, value })
-}
-
 fn not_written(number: u8) -> Written
     ensures { λ r. ⌜ r ≡ Written.Refused (refusedWith number) ⌝ }
 {
     Written::Refused(refuse(number))
-}
-
-fn not_parsed(number: u8) -> Parsed
-    ensures { λ r. ⌜ r ≡ Parsed.Refused (refusedWith number) ⌝ }
-{
-    Parsed::Refused(refuse(number))
 }

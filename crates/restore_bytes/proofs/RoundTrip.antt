@@ -12,7 +12,7 @@ use lib.Signed.{mag}
 use lib.ListN.{length, getD, drop, length-append}
 use lib.Seq.{drop-at, getD-at, getD-append-add}
 use Rattle.records_pathfinder.specs.Words.{wordOf, words}
-use Rattle.requests_pathfinder.proofs.RoundTrip.{value-reads-back}
+use Rattle.requests_read_pathfinder.proofs.RoundTrip.{value-reads-back}
 use Rattle.restore_jobs.specs.declared.Phase.{Phase}
 use Rattle.restore_jobs.specs.declared.Phase.the-variants.{Ready, Waiting, Stopped}
 use Rattle.restore_jobs.specs.declared.Job.{Job}

@@ -16,13 +16,13 @@ use Rattle.refusals.specs.declared.Written.the-variants.{Frame as HasFrame, Ref
 use Rattle.numbers.specs.declared.Order.the-variants.{LowFirst}
 use Rattle.numbers.specs.Bytes.{bytesOf}
 use Rattle.signs.specs.Signed.{bitsOf}
-use Rattle.frames_pathfinder.specs.Writing.{frameBytes}
+use Rattle.frames_written_pathfinder.specs.Writing.{frameBytes}
 use Rattle.registers_pathfinder.specs.Registers.{count, lows, highs, within, inRange}
 use Rattle.requests_pathfinder.specs.declared.Request.the-variants.{Write}
-use Rattle.requests_pathfinder.specs.declared.Parsed.the-variants.{Is}
 use Rattle.requests_pathfinder.specs.Requests.{faultOf, writtenAs, sentAs}
-use Rattle.requests_pathfinder.specs.Reading.{requestOf}
-use Rattle.requests_pathfinder.proofs.RoundTrip.{written-reads-back-request}
+use Rattle.requests_read_pathfinder.specs.declared.Parsed.the-variants.{Is}
+use Rattle.requests_read_pathfinder.specs.Reading.{requestOf}
+use Rattle.requests_read_pathfinder.proofs.RoundTrip.{written-reads-back-request}
 use Rattle.restore_order.specs.Slots.{slots, at, writes}
 use Rattle.restore_order.specs.Machine as M
 use Rattle.restore_order.specs.Opening.{pathfinder, every, opened, opening}

@@ -10,7 +10,7 @@ use mir.ValLaws.{toZ-ofZ}
 use Rattle.signs.specs.Signed.{bitsOf}
 use Rattle.numbers.specs.Bytes.{bytesOf}
 use Rattle.numbers.specs.declared.Order.the-variants.{LowFirst}
-use Rattle.frames_pathfinder.proofs.Writers.{all-of}
+use Rattle.frames_written_pathfinder.proofs.Writers.{all-of}
 use Rattle.requests_pathfinder.specs.Requests.{setLoad}
 use borrow.Author.Needs.{needs}
 use Rattle.requests_pathfinder.proofs.put_set.Statement.{statement}

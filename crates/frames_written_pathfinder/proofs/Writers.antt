@@ -10,7 +10,7 @@ use lib.ListN.{length, take, drop, set, length-append, length-drop}
 use lib.Seq.{sets, sets-eq, take-at, drop-append-add, drop-drop, drop-length}
 use Rattle.laws.proofs.Fitting.{fitting}
 use Rattle.checks.specs.Crc.{crcOf}
-use Rattle.frames_pathfinder.specs.Writing.{headOf, coveredOf, endOf, frameBytes, fits, begun, sealed}
+use Rattle.frames_written_pathfinder.specs.Writing.{headOf, coveredOf, endOf, frameBytes, fits, begun, sealed}
 
 -- a buffer that is written whole, store by store
 pub all-of : (vs l : List ℕ) → length l ≡ length vs → sets l 0 vs ≡ vs

@@ -1,4 +1,4 @@
--- `requests_pathfinder::read_request` meets its contract: the frame reader's contract, then what the whole frame says.
+-- `requests_read_pathfinder::read_request` meets its contract: the frame reader's contract, then what the whole frame says.
 -- Assumes nothing.
 use mathlib.Core.Path.{_≡_, sym, ap, _∙_}
 use Prim.Native.Nat.{ℕ}
@@ -7,11 +7,11 @@ use Rattle.frames_pathfinder.specs.declared.Frame.the-variants.{Whole}
 use Rattle.frames_pathfinder.specs.Reading.{frameOf}
 use Rattle.frames_pathfinder.proofs.Ladder.{whole-parts}
 use Rattle.records_pathfinder.proofs.Filled.{part-payload}
-use Rattle.requests_pathfinder.specs.Reading.{parsedOf}
-use Rattle.requests_pathfinder.proofs.Judged.{request-refused, request-whole}
+use Rattle.requests_read_pathfinder.specs.Reading.{parsedOf}
+use Rattle.requests_read_pathfinder.proofs.Judged.{request-refused, request-whole}
 use borrow.Author.Needs.{needs}
-use Rattle.requests_pathfinder.proofs.read_request.Statement.{statement}
-use Rattle.requests_pathfinder.proofs.read_request.Tie as tie
+use Rattle.requests_read_pathfinder.proofs.read_request.Statement.{statement}
+use Rattle.requests_read_pathfinder.proofs.read_request.Tie as tie
 
 -- the fields of the frame, and that the bytes are that frame
 abbrev Fields : (c : tie.After-known-told2) → ℕ × (ℕ × (ℕ × Unit {0}))

@@ -11,10 +11,10 @@ use lib.Seq.{take-at, take-add, take-all, take-nil, take-append-seam, getD-appen
 use Rattle.laws.proofs.Entries.{entries}
 use Rattle.laws.proofs.Fronts.{front}
 use Rattle.checks.specs.Crc.{crcOf}
 use Rattle.frames_pathfinder.specs.declared.Frame.the-variants.{Whole}
 use Rattle.frames_pathfinder.specs.Reading.{frameOf}
-use Rattle.frames_pathfinder.specs.Writing.{headOf, coveredOf, endOf, frameBytes}
 use Rattle.frames_pathfinder.proofs.Ladder.{whole, whole-parts}
+use Rattle.frames_written_pathfinder.specs.Writing.{headOf, coveredOf, endOf, frameBytes}
 
 pub frame-reads-back : (op : ℕ) (load : List ℕ) → Whole op 3 (length load) ≡ frameOf (frameBytes op load)
 unfolding frameBytes

@@ -12,10 +12,10 @@ use Rattle.frames_pathfinder.specs.Reading.{frameOf}
 use Rattle.registers_pathfinder.specs.Registers.{count, inRange}
 use Rattle.records_pathfinder.specs.Words.{wordOf}
 use Rattle.records_pathfinder.specs.Replies.{payloadOf}
 use Rattle.requests_pathfinder.specs.declared.Request.the-variants.{Ask, Write}
-use Rattle.requests_pathfinder.specs.declared.Parsed.{Parsed}
-use Rattle.requests_pathfinder.specs.declared.Parsed.the-variants.{Is, Refused}
 use Rattle.requests_pathfinder.specs.Requests.{asks}
+use Rattle.requests_read_pathfinder.specs.declared.Parsed.{Parsed}
+use Rattle.requests_read_pathfinder.specs.declared.Parsed.the-variants.{Is, Refused}
 
 -- the data of 0E: a register and four bytes of value
 unfoldable pub parsedSet : List ℕ → Parsed

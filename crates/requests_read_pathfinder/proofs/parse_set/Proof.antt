@@ -1,14 +1,14 @@
--- `requests_pathfinder::parse_set` meets its contract: shape, register, range, each by its law.
+-- `requests_read_pathfinder::parse_set` meets its contract: shape, register, range, each by its law.
 -- Assumes nothing.
 use mathlib.Core.Path.{sym, ap, _∙_}
 use borrow.Author.Tests.{not-true, not-false}
 use mir.Syntax.{w32}
 use mir.ValLaws.{toZ-ofZ}
 use Rattle.registers_pathfinder.specs.Registers.{inRange}
-use Rattle.requests_pathfinder.proofs.Judged.{set-misshapen, set-no-register, set-no-value, set-read}
+use Rattle.requests_read_pathfinder.proofs.Judged.{set-misshapen, set-no-register, set-no-value, set-read}
 use borrow.Author.Needs.{needs}
-use Rattle.requests_pathfinder.proofs.parse_set.Statement.{statement}
-use Rattle.requests_pathfinder.proofs.parse_set.Tie as tie
+use Rattle.requests_read_pathfinder.proofs.parse_set.Statement.{statement}
+use Rattle.requests_read_pathfinder.proofs.parse_set.Tie as tie
 
 not-parsed-requires : tie.Need-not-parsed-requires
 not-parsed-requires c κs = search needs

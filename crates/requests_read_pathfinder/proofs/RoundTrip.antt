@@ -24,19 +24,19 @@ use Rattle.signs.proofs.Signs.{bits-read-back, signed-written-back}
 use Rattle.frames_pathfinder.specs.declared.Frame.{Frame}
 use Rattle.frames_pathfinder.specs.declared.Frame.the-variants.{Whole, Refused as NoFrame}
 use Rattle.frames_pathfinder.specs.Reading.{frameOf}
-use Rattle.frames_pathfinder.specs.Writing.{frameBytes}
 use Rattle.frames_pathfinder.proofs.Ladder.{whole-parts}
-use Rattle.frames_pathfinder.proofs.ReadBack.{frame-reads-back, frame-writes-back, payload-back}
-use Rattle.frames_pathfinder.proofs.Writers.{frame-length}
+use Rattle.frames_written_pathfinder.specs.Writing.{frameBytes}
+use Rattle.frames_written_pathfinder.proofs.ReadBack.{frame-reads-back, frame-writes-back, payload-back}
+use Rattle.frames_written_pathfinder.proofs.Writers.{frame-length}
 use Rattle.registers_pathfinder.specs.Registers.{count, inRange}
 use Rattle.records_pathfinder.specs.Words.{wordOf}
 use Rattle.records_pathfinder.specs.Replies.{payloadOf}
 use Rattle.requests_pathfinder.specs.declared.Request.{Request}
 use Rattle.requests_pathfinder.specs.declared.Request.the-variants.{Ask, Write}
-use Rattle.requests_pathfinder.specs.declared.Parsed.the-variants.{Is, Refused}
 use Rattle.requests_pathfinder.specs.Requests.{asks, opcodeOf, setLoad, loadOf, frameFor, faultOf}
-use Rattle.requests_pathfinder.specs.Reading.{parsedSet, parsedOf, ofFrame, requestOf}
-use Rattle.requests_pathfinder.proofs.Judged.{parsed-ask, parsed-set, set-read, request-whole}
+use Rattle.requests_read_pathfinder.specs.declared.Parsed.the-variants.{Is, Refused}
+use Rattle.requests_read_pathfinder.specs.Reading.{parsedSet, parsedOf, ofFrame, requestOf}
+use Rattle.requests_read_pathfinder.proofs.Judged.{parsed-ask, parsed-set, set-read, request-whole}
 
 -- the value of a request is one of 32 bits, as every value that a program holds
 abbrev pub Typed : Request → Type 0

@@ -1,14 +1,14 @@
--- `frames_pathfinder::begin` meets its contract: three stores, or nothing where the frame does not fit.
+-- `frames_written_pathfinder::begin` meets its contract: three stores, or nothing where the frame does not fit.
 -- Assumes nothing.
 use Prim.Native.Nat.{_+_}
 use native.Mathlib.Omega.{arith}
 use lib.ListN.{length, length-set}
 use Rattle.laws.proofs.Fitting.{too-long, no-room}
-use Rattle.frames_pathfinder.specs.Writing.{begun}
-use Rattle.frames_pathfinder.proofs.Writers.{begun-is}
+use Rattle.frames_written_pathfinder.specs.Writing.{begun}
+use Rattle.frames_written_pathfinder.proofs.Writers.{begun-is}
 use borrow.Author.Needs.{needs}
-use Rattle.frames_pathfinder.proofs.begin.Statement.{statement}
-use Rattle.frames_pathfinder.proofs.begin.Tie as tie
+use Rattle.frames_written_pathfinder.proofs.begin.Statement.{statement}
+use Rattle.frames_written_pathfinder.proofs.begin.Tie as tie
 
 add-if2 : tie.Need-add-if2
 add-if2 c = search needs

@@ -1,14 +1,14 @@
--- `frames_pathfinder::seal` meets its contract: the part for checksum and end mark comes back written, or nothing changes.
+-- `frames_written_pathfinder::seal` meets its contract: the part for checksum and end mark comes back written, or nothing changes.
 -- Assumes nothing.
 use Prim.Native.Nat.{_+_}
 use native.Mathlib.Omega.{arith}
 use lib.ListN.{length}
 use Rattle.laws.proofs.Fitting.{too-long, no-room}
-use Rattle.frames_pathfinder.specs.Writing.{sealed}
-use Rattle.frames_pathfinder.proofs.Writers.{sealed-is}
+use Rattle.frames_written_pathfinder.specs.Writing.{sealed}
+use Rattle.frames_written_pathfinder.proofs.Writers.{sealed-is}
 use borrow.Author.Needs.{needs}
-use Rattle.frames_pathfinder.proofs.seal.Statement.{statement}
-use Rattle.frames_pathfinder.proofs.seal.Tie as tie
+use Rattle.frames_written_pathfinder.proofs.seal.Statement.{statement}
+use Rattle.frames_written_pathfinder.proofs.seal.Tie as tie
 
 add-if2 : tie.Need-add-if2
 add-if2 c = search needs

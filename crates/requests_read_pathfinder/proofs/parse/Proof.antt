@@ -1,10 +1,10 @@
--- `requests_pathfinder::parse` meets its contract: each way by the law for its opcodes.
+-- `requests_read_pathfinder::parse` meets its contract: each way by the law for its opcodes.
 -- Assumes nothing.
 use mathlib.Core.Path.{_∙_}
-use Rattle.requests_pathfinder.proofs.Judged.{parsed-set, parsed-low, parsed-high, parsed-misshapen, parsed-ask}
+use Rattle.requests_read_pathfinder.proofs.Judged.{parsed-set, parsed-low, parsed-high, parsed-misshapen, parsed-ask}
 use borrow.Author.Needs.{needs}
-use Rattle.requests_pathfinder.proofs.parse.Statement.{statement}
-use Rattle.requests_pathfinder.proofs.parse.Tie as tie
+use Rattle.requests_read_pathfinder.proofs.parse.Statement.{statement}
+use Rattle.requests_read_pathfinder.proofs.parse.Tie as tie
 
 parse-set-requires : tie.Need-parse-set-requires
 parse-set-requires c κs = search needs

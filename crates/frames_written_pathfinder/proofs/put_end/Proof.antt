@@ -1,10 +1,10 @@
--- `frames_pathfinder::put_end` meets its contract: three stores write the whole part.
+-- `frames_written_pathfinder::put_end` meets its contract: three stores write the whole part.
 -- Assumes nothing.
-use Rattle.frames_pathfinder.specs.Writing.{endOf}
-use Rattle.frames_pathfinder.proofs.Writers.{all-of}
+use Rattle.frames_written_pathfinder.specs.Writing.{endOf}
+use Rattle.frames_written_pathfinder.proofs.Writers.{all-of}
 use borrow.Author.Needs.{needs}
-use Rattle.frames_pathfinder.proofs.put_end.Statement.{statement}
-use Rattle.frames_pathfinder.proofs.put_end.Tie as tie
+use Rattle.frames_written_pathfinder.proofs.put_end.Statement.{statement}
+use Rattle.frames_written_pathfinder.proofs.put_end.Tie as tie
 
 cast-out : tie.Need-cast-out
 cast-out c = search needs
