@@ -22,9 +22,9 @@ use Rattle.frames_tongzhu.specs.declared.Frame.{Frame as Framed}
 use Rattle.frames_tongzhu.specs.declared.Frame.the-variants.{Whole, Refused as NoFrame}
 use Rattle.frames_tongzhu.specs.Functions.{kindOf}
 use Rattle.frames_tongzhu.specs.Reading.{frameOf}
-use Rattle.frames_tongzhu.specs.Writing.{frameBytes}
+use Rattle.frames_written_tongzhu.specs.Writing.{frameBytes}
 use Rattle.frames_tongzhu.proofs.Listed.{only-setting}
-use Rattle.frames_tongzhu.proofs.ReadBack.{frame-reads-back, payload-back, frame-writes-back}
+use Rattle.frames_written_tongzhu.proofs.ReadBack.{frame-reads-back, payload-back, frame-writes-back}
 use Rattle.requests_tongzhu.specs.declared.Request.{Request}
 use Rattle.requests_tongzhu.specs.declared.Request.the-variants.{Ask, SetTime}
 use Rattle.requests_tongzhu.specs.declared.Parsed.the-variants.{Is, Refused}

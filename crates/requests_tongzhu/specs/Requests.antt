@@ -16,7 +16,7 @@ use Rattle.frames_tongzhu.specs.declared.Frame.{Frame as Framed}
 use Rattle.frames_tongzhu.specs.declared.Frame.the-variants.{Whole, Refused as NoFrame}
 use Rattle.frames_tongzhu.specs.Functions.{kindOf}
 use Rattle.frames_tongzhu.specs.Reading.{frameOf}
-use Rattle.frames_tongzhu.specs.Writing.{frameBytes}
+use Rattle.frames_written_tongzhu.specs.Writing.{frameBytes}
 use Rattle.requests_tongzhu.specs.declared.Time.{Time}
 use Rattle.requests_tongzhu.specs.declared.Request.{Request}
 use Rattle.requests_tongzhu.specs.declared.Request.the-variants.{Ask, SetTime}

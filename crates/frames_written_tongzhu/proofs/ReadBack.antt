@@ -13,10 +13,10 @@ use Rattle.laws.proofs.Entries.{entries}
 use Rattle.laws.proofs.Fronts.{front}
 use Rattle.sums.specs.Sums.{total, closing, closes}
 use Rattle.sums.proofs.Closing.{test-closing, test-only}
 use Rattle.frames_tongzhu.specs.declared.Frame.the-variants.{Whole}
 use Rattle.frames_tongzhu.specs.Reading.{checked, check, frameOf}
-use Rattle.frames_tongzhu.specs.Writing.{headOf, bodyOf, frameBytes}
+use Rattle.frames_written_tongzhu.specs.Writing.{headOf, bodyOf, frameBytes}
 use Rattle.frames_tongzhu.proofs.Ladder.{whole, whole-parts}
 
 pub frame-reads-back : (f : ℕ) (load : List ℕ) → Whole f 5 (length load) ≡ frameOf (frameBytes f load)
 unfolding frameBytes

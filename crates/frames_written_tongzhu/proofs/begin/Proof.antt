@@ -1,4 +1,4 @@
--- `frames_tongzhu::begin` meets its contract: five stores put the head in place of the front; where the frame has no room nothing was
+-- `frames_written_tongzhu::begin` meets its contract: five stores put the head in place of the front; where the frame has no room nothing was
 -- stored.
 -- Assumes nothing.
 use Prim.Native.Nat.{_+_}
@@ -6,10 +6,10 @@ use native.Mathlib.Omega.{arith}
 use borrow.Author.Needs.{needs}
 use lib.ListN.{length, length-set}
 use Rattle.laws.proofs.Fitting.{too-long, no-room}
-use Rattle.frames_tongzhu.specs.Writing.{begun}
-use Rattle.frames_tongzhu.proofs.Writers.{begun-is}
-use Rattle.frames_tongzhu.proofs.begin.Statement.{statement}
-use Rattle.frames_tongzhu.proofs.begin.Tie as tie
+use Rattle.frames_written_tongzhu.specs.Writing.{begun}
+use Rattle.frames_written_tongzhu.proofs.Writers.{begun-is}
+use Rattle.frames_written_tongzhu.proofs.begin.Statement.{statement}
+use Rattle.frames_written_tongzhu.proofs.begin.Tie as tie
 
 add-if2 : tie.Need-add-if2
 add-if2 c = search needs

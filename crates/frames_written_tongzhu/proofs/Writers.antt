@@ -10,7 +10,7 @@ use lib.ListN.{length, take, drop, set, length-append, length-drop}
 use lib.Seq.{sets-eq, set-split, take-at, drop-append-add, drop-drop}
 use Rattle.laws.proofs.Fitting.{fitting}
 use Rattle.sums.specs.Sums.{total, closing}
-use Rattle.frames_tongzhu.specs.Writing.{headOf, bodyOf, frameBytes, fits, begun, sealed}
+use Rattle.frames_written_tongzhu.specs.Writing.{headOf, bodyOf, frameBytes, fits, begun, sealed}
 
 module _ (len : ℕ) (out : List ℕ) where
   module _ (short : len ≤ 249) (room : len + 6 ≤ length out) where

@@ -1,4 +1,4 @@
--- `frames_tongzhu::seal` meets its contract: the check is what closes the sum of all before it; where the frame has no room nothing was
+-- `frames_written_tongzhu::seal` meets its contract: the check is what closes the sum of all before it; where the frame has no room nothing was
 -- stored.
 -- Assumes nothing.
 use Prim.Native.Nat.{_+_}
@@ -6,10 +6,10 @@ use native.Mathlib.Omega.{arith}
 use lib.ListN.{length}
 use borrow.Author.Needs.{needs}
 use Rattle.laws.proofs.Fitting.{too-long, no-room}
-use Rattle.frames_tongzhu.specs.Writing.{sealed}
-use Rattle.frames_tongzhu.proofs.Writers.{sealed-is}
-use Rattle.frames_tongzhu.proofs.seal.Statement.{statement}
-use Rattle.frames_tongzhu.proofs.seal.Tie as tie
+use Rattle.frames_written_tongzhu.specs.Writing.{sealed}
+use Rattle.frames_written_tongzhu.proofs.Writers.{sealed-is}
+use Rattle.frames_written_tongzhu.proofs.seal.Statement.{statement}
+use Rattle.frames_written_tongzhu.proofs.seal.Tie as tie
 
 add-if2 : tie.Need-add-if2
 add-if2 c = search needs
