@@ -1,10 +1,10 @@
--- `requests_tongzhu::time_request` meets its contract: by the test of the time.
+-- `requests_read_tongzhu::time_request` meets its contract: by the test of the time.
 -- Assumes nothing.
 use mathlib.Core.Path.{sym, _∙_}
 use borrow.Author.Needs.{needs}
-use Rattle.requests_tongzhu.specs.Requests.{timeRequest}
-use Rattle.requests_tongzhu.proofs.time_request.Statement.{statement}
-use Rattle.requests_tongzhu.proofs.time_request.Tie as tie
+use Rattle.requests_read_tongzhu.specs.Reading.{timeRequest}
+use Rattle.requests_read_tongzhu.proofs.time_request.Statement.{statement}
+use Rattle.requests_read_tongzhu.proofs.time_request.Tie as tie
 
 is-real-requires : tie.Need-is-real-requires
 is-real-requires c κs = search needs

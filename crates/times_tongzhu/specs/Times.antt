@@ -8,7 +8,7 @@ use Rattle.calendar.specs.declared.Bcd.{Bcd}
 use Rattle.calendar.specs.declared.Bcd.the-variants.{Is, Other}
 use Rattle.calendar.specs.Decimal.{bcdOf, bcdByte}
 use Rattle.calendar.specs.Dates.{realDate, realTime}
-use Rattle.requests_tongzhu.specs.declared.Time.{Time}
+use Rattle.times_tongzhu.specs.declared.Time.{Time}
 
 -- the number of a BCD byte, or the byte of a number of two digits; 255, which no real date or time has, where there is none
 abbrev pub plainOf : Bcd → ℕ

@@ -1,4 +1,4 @@
--- `requests_tongzhu::read_request` meets its contract: the frame's own refusal, or the request in its payload; the payload lies within the
+-- `requests_read_tongzhu::read_request` meets its contract: the frame's own refusal, or the request in its payload; the payload lies within the
 -- bytes by what a whole frame says.
 -- Assumes nothing.
 use mathlib.Core.Path.{_≡_, sym, _∙_}
@@ -8,9 +8,9 @@ use borrow.Author.Needs.{needs}
 use Rattle.frames_tongzhu.proofs.Ladder.{whole-parts}
 use Rattle.frames_tongzhu.specs.Reading.{frameOf}
 use Rattle.frames_tongzhu.specs.declared.Frame.the-variants.{Whole}
-use Rattle.requests_tongzhu.proofs.Parsing.{no-frame, whole-frame}
-use Rattle.requests_tongzhu.proofs.read_request.Statement.{statement}
-use Rattle.requests_tongzhu.proofs.read_request.Tie as tie
+use Rattle.requests_read_tongzhu.proofs.Parsing.{no-frame, whole-frame}
+use Rattle.requests_read_tongzhu.proofs.read_request.Statement.{statement}
+use Rattle.requests_read_tongzhu.proofs.read_request.Tie as tie
 
 -- the frame's fields, and that the bytes are that frame
 abbrev Fields : tie.After-known-told2 → ℕ × (ℕ × (ℕ × Unit {0}))

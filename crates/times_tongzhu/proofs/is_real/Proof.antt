@@ -1,9 +1,9 @@
--- `requests_tongzhu::is_real` meets its contract: by the test of the date.
+-- `times_tongzhu::is_real` meets its contract: by the test of the date.
 -- Assumes nothing.
 use mathlib.Core.Path.{sym, _∙_}
 use borrow.Author.Needs.{needs}
-use Rattle.requests_tongzhu.proofs.is_real.Statement.{statement}
-use Rattle.requests_tongzhu.proofs.is_real.Tie as tie
+use Rattle.times_tongzhu.proofs.is_real.Statement.{statement}
+use Rattle.times_tongzhu.proofs.is_real.Tie as tie
 
 is-date-requires : tie.Need-is-date-requires
 is-date-requires c κs = search needs

@@ -1,13 +1,13 @@
--- `requests_tongzhu::payload_in` meets its contract: each way out is a law of the reading, from the kind of the function and the size of
+-- `requests_read_tongzhu::payload_in` meets its contract: each way out is a law of the reading, from the kind of the function and the size of
 -- the payload.
 -- Assumes nothing.
 use mathlib.Core.Path.{sym, ap, _∙_}
 use borrow.Author.Needs.{needs}
-use Rattle.requests_tongzhu.proofs.Parsing.{asked, asked-long, timed, timed-wrong, unlisted}
-use Rattle.requests_tongzhu.specs.Requests.{timeRequest}
-use Rattle.requests_tongzhu.specs.declared.Parsed.the-variants.{Refused}
-use Rattle.requests_tongzhu.proofs.payload_in.Statement.{statement}
-use Rattle.requests_tongzhu.proofs.payload_in.Tie as tie
+use Rattle.requests_read_tongzhu.proofs.Parsing.{asked, asked-long, timed, timed-wrong, unlisted}
+use Rattle.requests_read_tongzhu.specs.Reading.{timeRequest}
+use Rattle.requests_read_tongzhu.specs.declared.Parsed.the-variants.{Refused}
+use Rattle.requests_read_tongzhu.proofs.payload_in.Statement.{statement}
+use Rattle.requests_read_tongzhu.proofs.payload_in.Tie as tie
 
 kind-of-requires : tie.Need-kind-of-requires
 kind-of-requires c κs = search needs

@@ -25,13 +25,14 @@ use Rattle.frames_tongzhu.specs.Reading.{frameOf}
 use Rattle.frames_written_tongzhu.specs.Writing.{frameBytes}
 use Rattle.frames_tongzhu.proofs.Listed.{only-setting}
 use Rattle.frames_written_tongzhu.proofs.ReadBack.{frame-reads-back, payload-back, frame-writes-back}
 use Rattle.requests_tongzhu.specs.declared.Request.{Request}
 use Rattle.requests_tongzhu.specs.declared.Request.the-variants.{Ask, SetTime}
-use Rattle.requests_tongzhu.specs.declared.Parsed.the-variants.{Is, Refused}
-use Rattle.requests_tongzhu.specs.Times.{real, timeIn, timeBytes}
-use Rattle.requests_tongzhu.specs.Requests.{Wire, bytes, none, askWire, wireOf, writtenOf, roomAfter, timeRequest, byKind, payloadIn, ofFrame, parsedOf}
-use Rattle.requests_tongzhu.proofs.Moments.{time-back, bytes-back}
-use Rattle.requests_tongzhu.proofs.Parsing.{asked, timed}
+use Rattle.requests_read_tongzhu.specs.declared.Parsed.the-variants.{Is, Refused}
+use Rattle.times_tongzhu.specs.Times.{real, timeIn, timeBytes}
+use Rattle.requests_tongzhu.specs.Requests.{Wire, bytes, none, askWire, wireOf, writtenOf, roomAfter}
+use Rattle.requests_read_tongzhu.specs.Reading.{timeRequest, byKind, payloadIn, ofFrame, parsedOf}
+use Rattle.times_tongzhu.proofs.Moments.{time-back, bytes-back}
+use Rattle.requests_read_tongzhu.proofs.Parsing.{asked, timed}
 
 -- ---- a written request is read back
 

@@ -20,8 +20,8 @@ use Rattle.calendar.specs.declared.Bcd.the-variants.{Is, Other}
 use Rattle.calendar.specs.Decimal.{bcdOf, bcdByte}
 use Rattle.calendar.specs.Dates.{leap, days, daysIn, realDate, realTime}
 use Rattle.calendar.proofs.Tens.{bcd-reads-back, bcd-writes-back}
-use Rattle.requests_tongzhu.specs.declared.Time.{Time}
-use Rattle.requests_tongzhu.specs.Times.{plainOf, real, timeIn, timeBytes}
+use Rattle.times_tongzhu.specs.declared.Time.{Time}
+use Rattle.times_tongzhu.specs.Times.{plainOf, real, timeIn, timeBytes}
 
 -- ---- one byte
 

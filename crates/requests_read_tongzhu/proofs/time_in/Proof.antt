@@ -1,8 +1,8 @@
--- `requests_tongzhu::time_in` meets its contract: the six numbers are what the calls give.
+-- `requests_read_tongzhu::time_in` meets its contract: the six numbers are what the calls give.
 -- Assumes nothing.
 use borrow.Author.Needs.{needs}
-use Rattle.requests_tongzhu.proofs.time_in.Statement.{statement}
-use Rattle.requests_tongzhu.proofs.time_in.Tie as tie
+use Rattle.requests_read_tongzhu.proofs.time_in.Statement.{statement}
+use Rattle.requests_read_tongzhu.proofs.time_in.Tie as tie
 
 shared-slice-read-from-bcd : tie.Need-shared-slice-read-from-bcd
 shared-slice-read-from-bcd c = search needs

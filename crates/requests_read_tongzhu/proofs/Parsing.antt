@@ -13,10 +13,10 @@ use Rattle.frames_tongzhu.specs.declared.Frame.the-variants.{Whole, Refused as 
 use Rattle.frames_tongzhu.specs.Functions.{kindOf}
 use Rattle.frames_tongzhu.specs.Reading.{frameOf}
 use Rattle.frames_tongzhu.proofs.Ladder.{payload-part}
 use Rattle.requests_tongzhu.specs.declared.Request.the-variants.{Ask}
-use Rattle.requests_tongzhu.specs.declared.Parsed.the-variants.{Is, Refused}
-use Rattle.requests_tongzhu.specs.Times.{timeIn}
-use Rattle.requests_tongzhu.specs.Requests.{timeRequest, byKind, payloadIn, ofFrame, parsedOf}
+use Rattle.requests_read_tongzhu.specs.declared.Parsed.the-variants.{Is, Refused}
+use Rattle.times_tongzhu.specs.Times.{timeIn}
+use Rattle.requests_read_tongzhu.specs.Reading.{timeRequest, byKind, payloadIn, ofFrame, parsedOf}
 
 module _ (f : ℕ) (p : List ℕ) where
   of-kind : (k : Kind) → k ≡ kindOf f → byKind k f p ≡ payloadIn f p
