@@ -3,11 +3,11 @@
 use Prim.Native.Nat.{ℕ}
 use mathlib.Core.List.{[], _∷_}
 use lib.IntN.{pos}
-use Rattle.requests_tongzhu.specs.declared.Time.{Time}
+use Rattle.times_tongzhu.specs.declared.Time.{Time}
 use Rattle.requests_tongzhu.specs.declared.Request.{Request}
 use Rattle.requests_tongzhu.specs.declared.Request.the-variants.{Ask, SetTime}
-use Rattle.requests_tongzhu.specs.declared.Parsed.{Parsed}
-use Rattle.requests_tongzhu.specs.declared.Parsed.the-variants.{Is, Refused}
+use Rattle.requests_read_tongzhu.specs.declared.Parsed.{Parsed}
+use Rattle.requests_read_tongzhu.specs.declared.Parsed.the-variants.{Is, Refused}
 use Rattle.flat_tongzhu.specs.Numbers.{timeNumbers}
 use Rattle.exports_rows.specs.Told.{Told, numbers, refused}
 

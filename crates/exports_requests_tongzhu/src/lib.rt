@@ -3,16 +3,17 @@
 use exports_rows::put_numbers;
 use exports_rows::written_number;
 use flat_tongzhu::time_numbers;
-use requests_tongzhu::Parsed;
+use requests_read_tongzhu::Parsed;
+use requests_read_tongzhu::read_request;
 use requests_tongzhu::Request;
-use requests_tongzhu::Time;
-use requests_tongzhu::read_request;
 use requests_tongzhu::write_request;
+use times_tongzhu::Time;
 ghost use mathlib.Core.Path.{_≡_};
 ghost use lib.ListN.{length};
 ghost use Rattle.exports_rows.specs.Told.{codeOf, rowAfter};
 ghost use Rattle.exports_rows.specs.Writing.{writtenCode};
-ghost use Rattle.requests_tongzhu.specs.Requests.{wireOf, writtenOf, roomAfter, parsedOf};
+ghost use Rattle.requests_tongzhu.specs.Requests.{wireOf, writtenOf, roomAfter};
+ghost use Rattle.requests_read_tongzhu.specs.Reading.{parsedOf};
 ghost use Rattle.exports_requests_tongzhu.specs.Requests.{timeOf, requestTold, toldRequest};
 
 // Writes the request that asks for what a Tongzhu function reads.

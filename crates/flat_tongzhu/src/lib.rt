@@ -2,7 +2,7 @@
 use monitor3_tongzhu::Monitor3;
 use monitor3_tongzhu::Status;
 use records_tongzhu::Monitor2;
-use requests_tongzhu::Time;
+use times_tongzhu::Time;
 ghost use mathlib.Core.Path.{_≡_};
 ghost use Rattle.flat_tongzhu.specs.Numbers.{statusNumbers, monitor2Numbers, monitor3Numbers, timeNumbers};
 

@@ -1,4 +1,2 @@
 pub mod Listed
 pub mod Ladder
-pub mod ReadBack
-pub mod Writers

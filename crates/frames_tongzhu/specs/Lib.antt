@@ -1,3 +1,2 @@
 pub mod Functions
 pub mod Reading
-pub mod Writing

@@ -1,14 +1,12 @@
 // Tongzhu frames (002, 4; 01, Tongzhu): 7F, 10, 02, LEN, FUN, MSG, check. LEN counts the whole frame, 6 to 255, and all bytes
-// with the check sum to 0 modulo 256. Also which functions there are.
+// with the check sum to 0 modulo 256. `frames_written_tongzhu` writes them. Also which functions there are.
 use refusals::Refusal;
 use refusals::refuse;
-use sums::close256;
 use sums::sum256;
 ghost use mathlib.Core.Path.{_≡_};
 ghost use Rattle.refusals.specs.Refused.{refusedWith};
 ghost use Rattle.frames_tongzhu.specs.Functions.{kindOf};
 ghost use Rattle.frames_tongzhu.specs.Reading.{frameOf};
-ghost use Rattle.frames_tongzhu.specs.Writing.{begun, sealed};
 
 // What a function is asked for.
 pub enum Kind {
@@ -70,33 +68,6 @@ pub fn read_frame(s: &[u8]) -> Frame
         function: s[4],
         start: 5,
         len: last - 5,
-    }
-}
-
-// Puts the five bytes before a payload of `len` bytes. Changes nothing where the frame has no room or cannot be so long.
-pub fn begin(function: u8, len: usize, out: &mut [u8])
-    ensures { λ _. ⌜ now (out .exit) ≡ begun function len (now (out .entry)) ⌝ }
-{
-    if len <= 249 {
-        if len + 6 <= out.len() {
-            out[0] = 0x7F;
-            out[1] = 0x10;
-            out[2] = 0x02;
-            out[3] = (len + 6) as u8;
-            out[4] = function;
-        }
-    }
-}
-
-// Puts the check after a payload of `len` bytes that was begun. Changes nothing where `begin` changes nothing.
-pub fn seal(len: usize, out: &mut [u8])
-    ensures { λ _. ⌜ now (out .exit) ≡ sealed len (now (out .entry)) ⌝ }
-{
-    if len <= 249 {
-        if len + 6 <= out.len() {
-            let check = close256(&out[0..len + 5]);
-            out[len + 5] = check;
-        }
     }
 }
 

@@ -1,4 +1,1 @@
-pub mod Moments
-pub mod Parsing
-pub mod RoundTrip
 pub mod Wires

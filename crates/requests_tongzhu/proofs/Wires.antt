@@ -15,11 +15,11 @@ use Rattle.refusals.specs.declared.Written.the-variants.{Frame, Refused}
 use Rattle.refusals.specs.Refused.{refusedWith, range, room}
 use Rattle.frames_tongzhu.specs.declared.Kind.{Kind}
 use Rattle.frames_tongzhu.specs.Functions.{kindOf}
-use Rattle.frames_tongzhu.specs.Writing.{frameBytes, begun, sealed}
-use Rattle.frames_tongzhu.proofs.Writers.{begun-front, frame-made, frame-length}
-use Rattle.requests_tongzhu.specs.declared.Time.{Time}
+use Rattle.frames_written_tongzhu.specs.Writing.{frameBytes, begun, sealed}
+use Rattle.frames_written_tongzhu.proofs.Writers.{begun-front, frame-made, frame-length}
+use Rattle.times_tongzhu.specs.declared.Time.{Time}
 use Rattle.requests_tongzhu.specs.declared.Request.the-variants.{Ask, SetTime}
-use Rattle.requests_tongzhu.specs.Times.{real, timeBytes}
+use Rattle.times_tongzhu.specs.Times.{real, timeBytes}
 use Rattle.requests_tongzhu.specs.Requests.{Wire, bytes, none, askWire, wireOf, writtenOf, roomAfter}
 
 -- ---- any request

@@ -1,10 +1,9 @@
 -- Requests as bytes (002, 6; 01, Tongzhu and Refusal numbers). Written: 7, 8, 9, then 11; there are no registers, so no 10.
--- Read: the frame's refusals, then 7, 8, 9.
 -- Assumes nothing.
 use Prim.Native.Nat.{ℕ}
 use mathlib.Core.List.{List, [], _++_}
-use lib.ListN.{length, take, drop}
-use lib.Dec.{ltb, eqb}
+use lib.ListN.{length, drop}
+use lib.Dec.{ltb}
 use Rattle.laws.specs.Choice.{pick}
 use Rattle.refusals.specs.declared.Refusal.{Refusal}
 use Rattle.refusals.specs.declared.Written.{Written}
@@ -12,19 +11,11 @@ use Rattle.refusals.specs.declared.Written.the-variants.{Frame, Refused as NotW
 use Rattle.refusals.specs.Refused.{refusedWith, request, shape, range, room}
 use Rattle.frames_tongzhu.specs.declared.Kind.{Kind}
 use Rattle.frames_tongzhu.specs.declared.Kind.the-variants.{Reads, Sets, Unlisted}
-use Rattle.frames_tongzhu.specs.declared.Frame.{Frame as Framed}
-use Rattle.frames_tongzhu.specs.declared.Frame.the-variants.{Whole, Refused as NoFrame}
 use Rattle.frames_tongzhu.specs.Functions.{kindOf}
-use Rattle.frames_tongzhu.specs.Reading.{frameOf}
-use Rattle.frames_tongzhu.specs.Writing.{frameBytes}
-use Rattle.requests_tongzhu.specs.declared.Time.{Time}
+use Rattle.frames_written_tongzhu.specs.Writing.{frameBytes}
+use Rattle.times_tongzhu.specs.Times.{real, timeBytes}
 use Rattle.requests_tongzhu.specs.declared.Request.{Request}
 use Rattle.requests_tongzhu.specs.declared.Request.the-variants.{Ask, SetTime}
-use Rattle.requests_tongzhu.specs.declared.Parsed.{Parsed}
-use Rattle.requests_tongzhu.specs.declared.Parsed.the-variants.{Is, Refused}
-use Rattle.requests_tongzhu.specs.Times.{real, timeIn, timeBytes}
-
--- ---- written
 
 -- the frame of a request, or why it has none
 pub data Wire : Type 0 where
@@ -51,24 +42,3 @@ writtenOf (none r) n = NotWritten r
 unfoldable pub roomAfter : Wire → List ℕ → List ℕ
 roomAfter (bytes b) out = pick (ltb (length out) (length b)) out (b ++ drop (length b) out)
 roomAfter (none r) out = out
-
--- ---- read
-
-unfoldable pub timeRequest : Time → Parsed
-timeRequest t = pick (real t) (Is (SetTime t)) (Refused (refusedWith range))
-
-abbrev pub byKind : Kind → ℕ → List ℕ → Parsed
-byKind Reads f p = pick (eqb (length p) 0) (Is (Ask f)) (Refused (refusedWith shape))
-byKind Sets f p = pick (eqb (length p) 6) (timeRequest (timeIn p)) (Refused (refusedWith shape))
-byKind Unlisted f p = Refused (refusedWith request)
-
--- a frame of the function f with the payload p
-unfoldable pub payloadIn : ℕ → List ℕ → Parsed
-payloadIn f p = byKind (kindOf f) f p
-
-abbrev pub ofFrame : List ℕ → Framed → Parsed
-ofFrame s (NoFrame r) = Refused r
-ofFrame s (Whole f start len) = payloadIn f (take len (drop start s))
-
-unfoldable pub parsedOf : List ℕ → Parsed
-parsedOf s = ofFrame s (frameOf s)

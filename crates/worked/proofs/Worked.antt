@@ -9,7 +9,7 @@ use Rattle.lengths_pace.specs.Lengths.{wordOf}
 use Rattle.calendar.specs.Decimal.{bcdByte}
 use Rattle.calendar.specs.Dates.{leap, days, daysIn, realDate, realTime}
 use Rattle.frames_tongzhu.specs.Functions.{kindOf}
-use Rattle.frames_tongzhu.specs.Writing.{frameBytes}
+use Rattle.frames_written_tongzhu.specs.Writing.{frameBytes}
 use Rattle.requests_tongzhu.specs.Requests.{wireOf}
 use Rattle.characters_pace.specs.Characters.{allOf, halves}
 use Rattle.rows_pace.specs.Rows.{rowOf}

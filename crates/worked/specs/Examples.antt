@@ -11,7 +11,7 @@ use Rattle.lengths_pace.specs.declared.Length.{Length}
 use Rattle.lengths_pace.specs.declared.Length.the-variants as lengths
 use Rattle.lengths_pace.specs.Lengths.{wordOf}
 use Rattle.calendar.specs.Dates.{realDate}
-use Rattle.requests_tongzhu.specs.declared.Time.{Time}
+use Rattle.times_tongzhu.specs.declared.Time.{Time}
 use Rattle.requests_tongzhu.specs.declared.Request.the-variants.{Ask, SetTime}
 use Rattle.requests_tongzhu.specs.Requests.{Wire, bytes, none, wireOf}
 use Rattle.characters_pace.specs.Characters.{hexed}

@@ -1,8 +1,7 @@
 -- `exports_requests_tongzhu::tracksaffron_tz_parse` meets its contract: what the request reader answers, told.
 -- Assumes nothing.
 use mathlib.Core.Path.{sym, ap, _∙_}
-use Rattle.requests_tongzhu.specs.declared.Parsed.{Parsed}
-use Rattle.requests_tongzhu.specs.Requests.{parsedOf}
+use Rattle.requests_read_tongzhu.specs.Reading.{parsedOf}
 use Rattle.exports_rows.proofs.Telling.{told-refused}
 use Rattle.exports_requests_tongzhu.specs.Requests.{toldRequest}
 use borrow.Author.Needs.{needs}

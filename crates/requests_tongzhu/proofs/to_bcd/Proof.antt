@@ -2,7 +2,7 @@
 -- Assumes nothing.
 use mathlib.Core.Path.{ap, _∙_}
 use borrow.Author.Needs.{needs}
-use Rattle.requests_tongzhu.specs.Times.{plainOf}
+use Rattle.times_tongzhu.specs.Times.{plainOf}
 use Rattle.requests_tongzhu.proofs.to_bcd.Statement.{statement}
 use Rattle.requests_tongzhu.proofs.to_bcd.Tie as tie
 

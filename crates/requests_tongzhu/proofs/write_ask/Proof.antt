@@ -5,7 +5,7 @@ use mathlib.Core.List.{[]}
 use mathlib.Core.Path.{sym, ap, _∙_}
 use native.Mathlib.Omega.{arith}
 use borrow.Author.Needs.{needs}
-use Rattle.frames_tongzhu.specs.Writing.{sealed}
+use Rattle.frames_written_tongzhu.specs.Writing.{sealed}
 use Rattle.frames_tongzhu.specs.declared.Kind.the-variants.{Reads, Sets, Unlisted}
 use Rattle.requests_tongzhu.proofs.Wires.{kept, crowded, framed, ask-wire, ask-room}
 use Rattle.requests_tongzhu.specs.Requests.{none}

@@ -7,10 +7,10 @@ use native.Mathlib.Omega.{arith}
 use borrow.Author.Needs.{needs}
 use borrow.Author.Tests.{not-true, not-false}
 use borrow.Rule.Slice.PartMut.{putMid}
-use Rattle.frames_tongzhu.specs.Writing.{sealed}
+use Rattle.frames_written_tongzhu.specs.Writing.{sealed}
 use Rattle.requests_tongzhu.proofs.Wires.{kept, crowded, framed, real-wire, unreal-wire, time-room}
 use Rattle.requests_tongzhu.specs.Requests.{none}
-use Rattle.requests_tongzhu.specs.Times.{timeBytes}
+use Rattle.times_tongzhu.specs.Times.{timeBytes}
 use Rattle.requests_tongzhu.proofs.write_time.Statement.{statement}
 use Rattle.requests_tongzhu.proofs.write_time.Tie as tie
 
