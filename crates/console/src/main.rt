@@ -60,8 +60,8 @@ fn talk(
     let mut turns = u64::MAX;
     while turns > 0 {
         let come = read_on(input, had);
-        let lines = words::given(input, come.n as u64);
-        let done = answer_all(lines, bytes, string, row, job, out);
+        let there = words::given(input, come.n as u64);
+        let done = answer_all(there, bytes, string, row, job, out);
         flush(out, done.at);
         had = to_front(input, done.from, come.n);
         turns = fewer(turns, come.ended);

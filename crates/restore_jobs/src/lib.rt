@@ -1,4 +1,5 @@
-// A restore's job (01, Restore): its picture of the pack, what is wanted, and the phase; a job opened, and how many settings are left.
+// A restore's job (01, Restore): its picture of the pack, what is wanted, and the phase; a job opened, how many settings are left, and what is
+// wanted of one.
 // A job goes in by value and comes back by value. It is the job of the small machine of `restore_order`, about which demand 3 is proved.
 use refusals::Refusal;
 use restore_opening::Verdict;
