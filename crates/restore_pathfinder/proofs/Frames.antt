@@ -1,5 +1,5 @@
--- Demand 3 speaks of the frames that go out. Each call is a step of the machine, so that calls one after the other are a history of it; and where the
--- machine writes, next puts the one frame of request 0E into the room, which is read back as that register and value. Assumes nothing.
+-- Each call is a step of the machine of `restore_order`; and where the machine writes, next puts the one frame of request 0E into the room, which is
+-- read back as that register and value. Assumes nothing.
 use mathlib.Core.Path.{_≡_, refl, sym, ap, _∙_}
 use mathlib.Core.Bool.{Bool, true, false, _&&_}
 use mathlib.Core.List.{List, [], _∷_, _++_}
@@ -26,7 +26,6 @@ use Rattle.requests_read_pathfinder.proofs.RoundTrip.{written-reads-back-reques
 use Rattle.restore_order.specs.Slots.{slots, at, writes}
 use Rattle.restore_order.specs.Machine as M
 use Rattle.restore_order.specs.Opening.{pathfinder, every, opened, opening}
-use Rattle.restore_order.specs.Line.{Pack, World, Moment, asks, hears, after, afterAll}
 use Rattle.restore_order.proofs.Integers.{clash}
 use Rattle.restore_order.proofs.Ordering.{in-below, first-in}
 use Rattle.restore_order.proofs.Openings.{every-at, passed}
@@ -39,7 +38,6 @@ use Rattle.restore_next.specs.declared.Stepped.{Stepped}
 use Rattle.restore_jobs.specs.Jobs.{phaseOf, machine, heldPhase, held}
 use Rattle.restore_next.specs.Next.{sentOf, stepFor, nextOf, roomOf}
 use Rattle.restore_reply.specs.Reply.{readAs, heardOf}
-use Rattle.restore_pathfinder.specs.Dialogues.{Call, next, reply, afterCall, afterCalls, Makes, Ranged}
 
 -- ---- a job is the machine's
 
@@ -51,12 +49,15 @@ held-phase M.stopped = refl
 pub held-is : (m : M.Job) → machine (held m) ≡ m
 held-is m = ap (M.jobOf (m .present) (m .wanted)) (held-phase (m .phase))
 
--- ---- an opened job's values are in range
+-- ---- an opened job's values are in range, and stay so, since no call changes what is wanted
+
+abbrev pub Ranged : Job → Type 0
+Ranged j = (n : ℕ) → n < 15 → inRange n (at (j .wanted) n) ≡ true
 
 pub opened-in-range : (o w : List ℤ) → opening pathfinder o w ≡ opened (M.jobOf o w M.ready) → Ranged (held (M.jobOf o w M.ready))
 opened-in-range o w e n h = passed pathfinder o w e .in-range n h
 
-next-keeps-wanted : (j : Job) (places : ℕ) (a : M.Asked) → stepFor j places a .job .wanted ≡ j .wanted
+pub next-keeps-wanted : (j : Job) (places : ℕ) (a : M.Asked) → stepFor j places a .job .wanted ≡ j .wanted
 next-keeps-wanted j places (M.write r v) = go (sentAs (Write r v) places)
   where
     go : (x : Written) → sentOf j (held (M.afterAsked (M.write r v) (machine j))) x .job .wanted ≡ j .wanted
@@ -65,17 +66,18 @@ next-keeps-wanted j places (M.write r v) = go (sentAs (Write r v) places)
 next-keeps-wanted j places M.done = refl
 next-keeps-wanted j places (M.declined why) = refl
 
-reply-keeps-wanted : (p w : List ℤ) (ph : Phase) (a : M.Answer) → M.afterHeardIn p w (phaseOf ph) a .wanted ≡ w
+pub reply-keeps-wanted : (p w : List ℤ) (ph : Phase) (a : M.Answer) → M.afterHeardIn p w (phaseOf ph) a .wanted ≡ w
 reply-keeps-wanted p w Ready a = refl
 reply-keeps-wanted p w (Waiting r) M.success = refl
 reply-keeps-wanted p w (Waiting r) (M.failure c) = refl
 reply-keeps-wanted p w (Waiting r) (M.refused n) = refl
 reply-keeps-wanted p w Stopped a = refl
 
--- no call changes what is wanted, so that they stay in range
-pub stays-in-range : (j : Job) (c : Call) → Ranged j → Ranged (afterCall j c)
-stays-in-range j (next places) h n b = rw (next-keeps-wanted j places (M.asked slots places (machine j))) (h n b)
-stays-in-range j (reply s) h n b = rw (reply-keeps-wanted (j .present) (j .wanted) (j .phase) (readAs s)) (h n b)
+pub next-in-range : (j : Job) (places : ℕ) → Ranged j → Ranged (nextOf j places .job)
+next-in-range j places h n b = rw (next-keeps-wanted j places (M.asked slots places (machine j))) (h n b)
+
+pub reply-in-range : (j : Job) (s : List ℕ) → Ranged j → Ranged (heardOf j s .job)
+reply-in-range j s h n b = rw (reply-keeps-wanted (j .present) (j .wanted) (j .phase) (readAs s)) (h n b)
 
 -- ---- where the machine writes
 
@@ -110,7 +112,7 @@ writes-what j places r v e =
     record { setting = a .0; value = a .1 .0; enough = a .1 .1 }
 
 -- the writer of requests takes every write of a value in range
-no-fault : (r : ℕ) (v : ℤ) → inRange r v ≡ true → faultOf (Write r v) ≡ 0
+pub no-fault : (r : ℕ) (v : ℤ) → inRange r v ≡ true → faultOf (Write r v) ≡ 0
 unfolding faultOf inRange
 no-fault r v h =
     let a = both (ltb r count) (within (getD lows r (pos 0)) (getD highs r (pos 0)) v) h in
@@ -130,7 +132,7 @@ limits : every 15 limit ≡ true
 unfolding every lows highs
 limits = refl
 
-small : (r : ℕ) (v : ℤ) → inRange r v ≡ true → mag v < 2 ^ 31
+pub small : (r : ℕ) (v : ℤ) → inRange r v ≡ true → mag v < 2 ^ 31
 unfolding inRange
 small r v h =
     let a = both (ltb r count) (within (at lows r) (at highs r) v) h in
@@ -162,7 +164,7 @@ module _ (j : Job) (ranged : Ranged j) (places r : ℕ) (v : ℤ) (e : M.asked s
   pub reads-back : requestOf (frameBytes 0x0E (r ∷ bytesOf LowFirst 4 (bitsOf 32 v))) ≡ Is (Write r v)
   reads-back = written-reads-back-request (Write r v) (small r v in-range) (no-fault r v in-range)
 
--- ---- calls one after the other are a history of the machine
+-- ---- each call is a step of the machine
 
 pub next-is-step : (j : Job) → Ranged j → (places : ℕ) → machine (nextOf j places .job) ≡ M.afterAsked (M.asked slots places (machine j)) (machine j)
 next-is-step j ranged places = go (M.asked slots places (machine j)) refl
@@ -174,19 +176,3 @@ next-is-step j ranged places = go (M.asked slots places (machine j)) refl
 
 pub reply-is-step : (j : Job) (s : List ℕ) → machine (heardOf j s .job) ≡ M.afterHeard (machine j) (readAs s)
 reply-is-step j s = held-is (M.afterHeard (machine j) (readAs s))
-
--- whatever becomes of the frames and whatever the pack holds, the job in the history is the job of the code
-pub calls-are-history : (pack : Pack) (h : List Moment) (cs : List Call) (j : Job) (x : World) → Ranged j → x .job ≡ machine j → Makes h cs
-    → afterAll slots pack x h .job ≡ machine (afterCalls j cs)
-unfolding afterAll after afterCalls
-calls-are-history pack [] [] j x ranged e m = e
-calls-are-history pack [] (c ∷ cs) j x ranged e m = absurd m
-calls-are-history pack (a ∷ h) [] j x ranged e m = absurd m
-calls-are-history pack (asks size reached q ∷ h) (next places ∷ cs) j x ranged e m =
-    calls-are-history pack h cs (afterCall j (next places)) (after slots pack x (asks size reached q)) (stays-in-range j (next places) ranged)
-    (rw (e, m .0) (sym (next-is-step j ranged places))) (m .1)
-calls-are-history pack (asks size reached q ∷ h) (reply s ∷ cs) j x ranged e m = absurd m
-calls-are-history pack (hears a q ∷ h) (next places ∷ cs) j x ranged e m = absurd m
-calls-are-history pack (hears a q ∷ h) (reply s ∷ cs) j x ranged e m =
-    calls-are-history pack h cs (afterCall j (reply s)) (after slots pack x (hears a q)) (stays-in-range j (reply s) ranged)
-    (rw (e, m .0) (sym (reply-is-step j s))) (m .1)
