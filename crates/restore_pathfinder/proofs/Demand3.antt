@@ -11,23 +11,31 @@ use lib.IntN.{ℤ}
 use lib.ListN.{length, take, length-map}
 use lib.Seq.{take-all}
 use borrow.Author.Tests.{lt-ltb}
+use Rattle.refusals.specs.Refused.{refusedWith, turn}
 use Rattle.registers_pathfinder.specs.Registers.{inRange}
 use Rattle.restore_order.specs.Slots.{slots, at, writes, isIn, sides}
 use Rattle.restore_order.specs.Machine as M
 use Rattle.restore_order.specs.Opening as O
 use Rattle.restore_order.specs.Line as L
+use Rattle.restore_order.specs.Suppositions.{inTurn}
 use Rattle.restore_order.specs.Suppositions as S
 use Rattle.restore_order.specs.Demands.{Safe}
 use Rattle.restore_order.specs.Demands as E
+use Rattle.restore_order.proofs.Integers.{clash}
 use Rattle.restore_order.proofs.Openings.{Passed, passed, passes}
 use Rattle.restore_order.proofs.Demand3 as D
+use Rattle.restore_jobs.specs.declared.Phase.{Phase}
+use Rattle.restore_jobs.specs.declared.Phase.the-variants.{Ready, Waiting, Stopped}
 use Rattle.restore_jobs.specs.declared.Job.{Job}
 use Rattle.restore_jobs.specs.declared.Opening.the-variants.{Accepted}
-use Rattle.restore_next.specs.declared.Step.the-variants.{Done}
+use Rattle.restore_jobs.specs.Jobs.{phaseOf, machine, heldPhase, held, openedAs, openOf, leftOf}
+use Rattle.restore_next.specs.declared.Step.the-variants.{Done, Refused as NoStep}
 use Rattle.restore_next.specs.declared.Stepped.{Stepped}
-use Rattle.restore_jobs.specs.Jobs.{machine, held, openedAs, openOf, leftOf}
-use Rattle.restore_next.specs.Next.{nextOf}
-use Rattle.restore_pathfinder.specs.Wire.{Device, WriteRule, Scene, begin, Event, afterAll}
+use Rattle.restore_next.specs.Next.{nextOf, roomOf}
+use Rattle.restore_reply.specs.declared.Outcome.the-variants.{Failure}
+use Rattle.restore_reply.specs.declared.Answer.the-variants.{Taken as IsTaken}
+use Rattle.restore_reply.specs.Reply.{readAs, answerOf, heardOf}
+use Rattle.restore_pathfinder.specs.Wire.{Device, WriteRule, Scene, begin, Event, goesOut, afterAll}
 use Rattle.restore_pathfinder.specs.Suppositions.{OnLine, Answered, chances, Supposed}
 use Rattle.restore_pathfinder.specs.Demands.{occurrences, frameTo, Finished, leaves, allLeave, AllOnLine, AllSafe}
 use Rattle.restore_pathfinder.proofs.Frames.{Ranged, opened-in-range, one-frame}
@@ -68,6 +76,39 @@ said-done j ranged places e = go (M.asked slots places (machine j)) refl
         let z : _≡_ {A = ℕ} 0 1 = cc in absurd (omega arith)
     go M.done h = refl
     go (M.declined why) h = let f = rw h at e in let z : _≡_ {A = ℕ} 0 1 = cc in absurd (omega arith)
+
+-- ---- out of turn, and after a device failure
+
+-- next while a reply is due, or of a job that is stopped, is refused with 14: job and room stay as they were, and nothing goes out
+pub record Harmless (j : Job) (room : List ℕ) : Type 0 where
+  pub refused : nextOf j (length room) .step ≡ NoStep (refusedWith turn)
+  pub same-job : nextOf j (length room) .job ≡ j
+  pub same-room : roomOf j room ≡ room
+  pub nothing-out : goesOut j room ≡ []
+
+pub out-of-turn : (j : Job) (room : List ℕ) → inTurn (phaseOf (j .phase)) ≡ false → Harmless j room
+out-of-turn j room h = go (j .phase) refl h
+  where
+    go : (ph : Phase) → j .phase ≡ ph → inTurn (phaseOf ph) ≡ false → Harmless j room
+    go Ready e f = clash refl f
+    go (Waiting r) e f = record { refused = rw e; same-job = rw e; same-room = rw e; nothing-out = rw e }
+    go Stopped e f = record { refused = rw e; same-job = rw e; same-room = rw e; nothing-out = rw e }
+
+-- a device failure that is taken stops the job
+pub failure-stops : (j : Job) (s : List ℕ) (code : ℕ) → heardOf j s .answer ≡ IsTaken (Failure code) → heardOf j s .job .phase ≡ Stopped
+failure-stops j s code e = go (j .phase) (readAs s) e
+  where
+    go : (ph : Phase) (a : M.Answer) → answerOf (M.heard (phaseOf ph) a) ≡ IsTaken (Failure code)
+        → heldPhase (M.afterHeardIn (j .present) (j .wanted) (phaseOf ph) a .phase) ≡ Stopped
+    go Ready a h = let z : _≡_ {A = ℕ} 0 1 = cc in absurd (omega arith)
+    go (Waiting r) M.success h = let z : _≡_ {A = ℕ} 0 1 = cc in absurd (omega arith)
+    go (Waiting r) (M.failure c) h = refl
+    go (Waiting r) (M.refused why) h = let z : _≡_ {A = ℕ} 0 1 = cc in absurd (omega arith)
+    go Stopped a h = refl
+
+-- and stopped it stays, whatever is heard
+pub stopped-stays : (j : Job) (s : List ℕ) → j .phase ≡ Stopped → heardOf j s .job .phase ≡ Stopped
+stopped-stays j s e = rw e
 
 -- ---- a dialogue and the machine's history of it
 
