@@ -4,7 +4,8 @@ use mathlib.Core.Path.{_≡_, refl}
 use mathlib.Core.Bool.{Bool, true, false, not}
 use Prim.Native.Nat.{ℕ, _+_, _%_, _<_}
 use lib.Dec.{T, eqb}
-use Rattle.laws.proofs.Below.{below, each}
+use Rattle.laws.specs.Every.{every}
+use Rattle.laws.proofs.Every.{each}
 use Rattle.calendar.specs.Dates.{leap}
 
 agree : Bool → Bool → Bool
@@ -22,5 +23,5 @@ by-four : ℕ → Bool
 by-four year = agree (leap (2000 + year)) (eqb (year % 4) 0)
 
 pub each-fourth : (year : ℕ) → year < 100 → leap (2000 + year) ≡ eqb (year % 4) 0
-unfolding by-four agree below leap
+unfolding by-four agree every leap
 each-fourth year h = same (leap (2000 + year)) (eqb (year % 4) 0) (each by-four 100 tt year h)

@@ -4,7 +4,8 @@ use mathlib.Core.Path.{_≡_, ap}
 use mathlib.Core.Bool.{Bool, true, false}
 use Prim.Native.Nat.{ℕ, _<_}
 use lib.Dec.{T, eqb, eqb→eq}
-use Rattle.laws.proofs.Below.{below, each}
+use Rattle.laws.specs.Every.{every}
+use Rattle.laws.proofs.Every.{each}
 use Rattle.calendar.specs.declared.Bcd.{Bcd}
 use Rattle.calendar.specs.declared.Bcd.the-variants.{Is, Other}
 use Rattle.calendar.specs.Decimal.{bcdOf, bcdByte}
@@ -28,7 +29,7 @@ back : ℕ → Bool
 back n = isOf (then (bcdByte n) bcdOf) n
 
 pub bcd-reads-back : (n b : ℕ) → n < 100 → bcdByte n ≡ Is b → bcdOf b ≡ Is n
-unfolding back isOf then below bcdByte bcdOf
+unfolding back isOf then every bcdByte bcdOf
 bcd-reads-back n b h e = is (bcdOf b) n (rw e at (each back 100 tt n h))
 
 -- a byte that is no BCD has nothing to write back
@@ -40,5 +41,5 @@ same : ℕ → Bool
 same b = again (bcdOf b) b
 
 pub bcd-writes-back : (b n : ℕ) → b < 256 → bcdOf b ≡ Is n → bcdByte n ≡ Is b
-unfolding same again isOf below bcdByte bcdOf
+unfolding same again isOf every bcdByte bcdOf
 bcd-writes-back b n h e = is (bcdByte n) b (rw e at (each same 256 tt b h))

@@ -8,7 +8,8 @@ use native.Mathlib.Numerals.{one-add}
 use lib.Bits.{bitXor, xor-self, xor-mod, xor-shr, xor-shifted}
 use lib.Dec.{T, eqb, eqb→eq}
 use lib.Pow.{pow-pos, split, shr-lt}
-use Rattle.laws.proofs.Below.{below, both-left, both-right}
+use Rattle.laws.specs.Every.{every}
+use Rattle.laws.proofs.Every.{both-left, both-right}
 use Rattle.checks.specs.Crc.{shift, shifts}
 use Rattle.checks.proofs.Xor.{xor-shl, xor-swap}
 use Rattle.checks.proofs.Linear.{shifts-xor, shifts-lt}
@@ -47,18 +48,18 @@ none-to-none : {f : ℕ → ℕ} → Linear f → f 0 ≡ 0
 none-to-none {f} p = p .of-both 0 0 ∙ xor-self (f 0)
 
 -- on each bit below n, and so on each number below 2 ^ n
-pub agree : (f g : ℕ → ℕ) → Linear f → Linear g → (n : ℕ) → T (below (λ k. eqb (f (2 ^ k)) (g (2 ^ k))) n) → (x : ℕ) → x < 2 ^ n → f x ≡ g x
-unfolding below
+pub agree : (f g : ℕ → ℕ) → Linear f → Linear g → (n : ℕ) → T (every n (λ k. eqb (f (2 ^ k)) (g (2 ^ k)))) → (x : ℕ) → x < 2 ^ n → f x ≡ g x
+unfolding every
 agree f g p q zero t zero h = none-to-none p ∙ sym (none-to-none q)
 agree f g p q zero t (suc x) h = absurd (not-suc-le-zero (le-of-suc-le-suc h))
 agree f g p q (suc n) t x h =
     let parts : bitXor (x / 2 ^ n * 2 ^ n) (x % 2 ^ n) ≡ x = xor-shifted (x / 2 ^ n) n (x % 2 ^ n) (mod-lt x (pow-pos n)) ∙ split x n in
-    let rest = agree f g p q n (both-right (eqb (f (2 ^ n)) (g (2 ^ n))) (below (λ k. eqb (f (2 ^ k)) (g (2 ^ k))) n) t) (x % 2 ^ n) (mod-lt x (pow-pos n)) in
+    let rest = agree f g p q n (both-left (every n (λ k. eqb (f (2 ^ k)) (g (2 ^ k)))) (eqb (f (2 ^ n)) (g (2 ^ n))) t) (x % 2 ^ n) (mod-lt x (pow-pos n)) in
     ap f (sym parts) ∙ p .of-both (x / 2 ^ n * 2 ^ n) (x % 2 ^ n) ∙ ap₂ bitXor (bit (x / 2 ^ n) (shr-lt 1 n (subst (λ (k : ℕ). x < 2 ^ k) (sym (one-add n)) h))) rest
     ∙ sym (q .of-both (x / 2 ^ n * 2 ^ n) (x % 2 ^ n)) ∙ ap g parts
   where
     alone : f (2 ^ n) ≡ g (2 ^ n)
-    alone = eqb→eq (f (2 ^ n)) (g (2 ^ n)) (both-left (eqb (f (2 ^ n)) (g (2 ^ n))) (below (λ k. eqb (f (2 ^ k)) (g (2 ^ k))) n) t)
+    alone = eqb→eq (f (2 ^ n)) (g (2 ^ n)) (both-right (every n (λ k. eqb (f (2 ^ k)) (g (2 ^ k)))) (eqb (f (2 ^ n)) (g (2 ^ n))) t)
 
     bit : (b : ℕ) → b < 2 → f (b * 2 ^ n) ≡ g (b * 2 ^ n)
     bit zero l = rw (zero-mul (2 ^ n)) (none-to-none p ∙ sym (none-to-none q))
@@ -82,7 +83,7 @@ unfolding spread
 spread-linear = both (both same (then (low 11) (up 5))) (then (low 4) (up 12))
 
 pub sixteen-moves : (x : ℕ) → x < 65536 → spread (mixed x) ≡ shifts 8 (shifts 8 x)
-unfolding mixed spread below shifts shift
+unfolding mixed spread every shifts shift
 sixteen-moves =
     agree (λ x. spread (mixed x)) (λ x. shifts 8 (shifts 8 x)) (then mixed-linear spread-linear)
     (then (moved 8) (moved 8)) 16 tt
@@ -105,5 +106,5 @@ eighth-linear =
     both (both (both (then (low 8) (up 8)) top) (then (then top (low 8)) (up 5))) (then (then top (low 4)) (up 12))
 
 pub eight-moves : (x : ℕ) → x < 65536 → eighth x ≡ shifts 8 x
-unfolding eighth below shifts shift
+unfolding eighth every shifts shift
 eight-moves = agree eighth (shifts 8) eighth-linear (moved 8) 16 tt

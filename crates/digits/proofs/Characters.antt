@@ -7,7 +7,8 @@ use Prim.Native.Nat.{ℕ, _+_, _*_, _/_, _%_, _<_}
 use native.Mathlib.Omega.{arith}
 use borrow.Author.Tests.{ltb-true}
 use lib.Dec.{T, ltb, eqb, eqb→eq}
-use Rattle.laws.proofs.Below.{below, each, both-left, both-right, holds}
+use Rattle.laws.specs.Every.{every}
+use Rattle.laws.proofs.Every.{each, both-left, both-right, holds}
 use Rattle.digits.specs.declared.Hex.{Hex}
 use Rattle.digits.specs.declared.Hex.the-variants.{Value, Other}
 use Rattle.digits.specs.Hexes.{digitOf, joined, byteOf, charOf, charsOf}
@@ -26,7 +27,7 @@ back : ℕ → Bool
 back n = isValue (digitOf (charOf n)) n
 
 pub digit-reads-back : (n : ℕ) → n < 16 → digitOf (charOf n) ≡ Value n
-unfolding back isValue below digitOf
+unfolding back isValue every digitOf
 digit-reads-back n h = is (digitOf (charOf n)) n (each back 16 tt n h)
 
 -- the test that what the character c stands for is below 16 and has c for its character
@@ -38,7 +39,7 @@ same : ℕ → Bool
 same c = right (digitOf c) c
 
 fact : (c v : ℕ) → c < 256 → digitOf c ≡ Value v → T (ltb v 16 && eqb (charOf v) c)
-unfolding same right below digitOf
+unfolding same right every digitOf
 fact c v h e = rw e at (each same 256 tt c h)
 
 pub digit-small : (c v : ℕ) → c < 256 → digitOf c ≡ Value v → v < 16

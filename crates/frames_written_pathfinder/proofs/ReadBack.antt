@@ -8,7 +8,7 @@ use native.Mathlib.Nat.{add-zero}
 use native.Mathlib.Omega.{arith}
 use lib.ListN.{length, getD, take, drop, length-append, length-drop, take-append-drop}
 use lib.Seq.{take-at, take-add, take-all, take-nil, take-append-seam, getD-append-add, getD-drop, length-take-le}
-use Rattle.laws.proofs.Entries.{entries}
+use Rattle.laws.specs.Firsts.{firsts}
 use Rattle.laws.proofs.Fronts.{front}
 use Rattle.checks.specs.Crc.{crcOf}
 use Rattle.frames_pathfinder.specs.declared.Frame.the-variants.{Whole}
@@ -37,7 +37,7 @@ payload-back op load = take-append-seam load (endOf (crcOf (coveredOf op load)))
 
 -- the three bytes from place i to the end of a list
 last-three : (s : List ℕ) (i : ℕ) → i + 3 ≡ length s → drop i s ≡ getD s i 0 ∷ getD s (i + 1) 0 ∷ getD s (i + 2) 0 ∷ []
-unfolding entries
+unfolding firsts
 last-three s i e =
     let n : length (drop i s) ≡ 3 = length-drop i s ∙ omega arith in
     sym (take-all 3 (drop i s) (omega arith)) ∙ front (drop i s) 3 (omega arith) ∙ rw (getD-drop, getD-drop, getD-drop, add-zero)
@@ -48,7 +48,7 @@ tail-take m (x ∷ s) = refl
 
 pub frame-writes-back : (s : List ℕ) (op st n : ℕ) → Whole op st n ≡ frameOf s → getD s (n + 3) 0 < 256 → getD s (n + 4) 0 < 256
     → frameBytes op (take n (drop st s)) ≡ s
-unfolding frameBytes entries
+unfolding frameBytes firsts
 frame-writes-back s op st n h high low =
     let p = whole-parts s op st n h in
     let load = take n (drop 3 s) in

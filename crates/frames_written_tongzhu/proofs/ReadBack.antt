@@ -9,7 +9,7 @@ use native.Mathlib.Omega.{arith}
 use lib.Dec.{lit<}
 use lib.ListN.{length, getD, take, drop, length-append, length-drop, drop-of-length-le}
 use lib.Seq.{take-at, getD-at, take-add, take-append-seam, length-take-le, split-at}
-use Rattle.laws.proofs.Entries.{entries}
+use Rattle.laws.specs.Firsts.{firsts}
 use Rattle.laws.proofs.Fronts.{front}
 use Rattle.sums.specs.Sums.{total, closing, closes}
 use Rattle.sums.proofs.Closing.{test-closing, test-only}
@@ -45,7 +45,7 @@ ends s h =
     split-at s j 0 (omega arith) ∙ ap (λ (l : List ℕ). take j s ++ (getD s j 0 ∷ l)) none
 
 pub frame-writes-back : (s : List ℕ) (f st n : ℕ) → Whole f st n ≡ frameOf s → check s < 256 → frameBytes f (take n (drop st s)) ≡ s
-unfolding frameBytes entries
+unfolding frameBytes firsts
 frame-writes-back s f st n h byte =
     let p = whole-parts s f st n h in
     let load = take n (drop 5 s) in

@@ -11,7 +11,7 @@ use lib.IntN.{ℤ}
 use lib.ListN.{length, getD, take, drop}
 use lib.Signed.{mag}
 use Rattle.laws.specs.Choice.{pick}
-use Rattle.laws.proofs.Entries.{entries}
+use Rattle.laws.specs.Firsts.{firsts}
 use Rattle.laws.proofs.Fronts.{front}
 use Rattle.laws.proofs.Ladders.{into, both}
 use Rattle.refusals.specs.declared.Refusal.{Refusal}
@@ -98,7 +98,7 @@ pub record Read (op : ℕ) (load : List ℕ) (q : Request) : Type 0 where
 
 -- five bytes, one by one
 five : (load : List ℕ) → length load ≡ 5 → load ≡ getD load 0 0 ∷ getD load 1 0 ∷ getD load 2 0 ∷ getD load 3 0 ∷ getD load 4 0 ∷ []
-unfolding entries
+unfolding firsts
 five load e = sym (lib.Seq.take-all 5 load (omega arith)) ∙ front load 5 (omega arith)
 
 -- every place of a list holds a byte

@@ -13,7 +13,8 @@ use Rattle.laws.proofs.Ladders.{both}
 use Rattle.refusals.specs.Refused.{refusedWith, shape, range, wantedPair, presentPair}
 use Rattle.restore_order.specs.Slots.{slots, at, sides}
 use Rattle.restore_order.specs.Machine.{Job, jobOf, ready}
-use Rattle.restore_order.specs.Opening.{pathfinder, every, opened, inOrder, shapely, ranged, opening}
+use Rattle.laws.specs.Every.{every}
+use Rattle.restore_order.specs.Opening.{pathfinder, opened, inOrder, shapely, ranged, opening}
 use Rattle.restore_opening.specs.declared.Verdict.the-variants.{Accepted, Refused}
 use Rattle.restore_opening.specs.Verdicts.{verdictOf}
 

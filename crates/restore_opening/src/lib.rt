@@ -12,7 +12,8 @@ ghost use Prim.Native.Nat.{_<_, _≤_};
 ghost use lib.ListN.{length};
 ghost use Rattle.registers_pathfinder.specs.Registers.{fitsType, inRange};
 ghost use Rattle.restore_order.specs.Slots.{at, sides, slots};
-ghost use Rattle.restore_order.specs.Opening.{pathfinder, every, shapely, opening};
+ghost use Rattle.laws.specs.Every.{every};
+ghost use Rattle.restore_order.specs.Opening.{pathfinder, shapely, opening};
 ghost use Rattle.restore_opening.specs.Verdicts.{verdictOf, fits, upright};
 
 pub enum Verdict {

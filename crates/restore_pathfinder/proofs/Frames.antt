@@ -10,6 +10,8 @@ use lib.Dec.{ltb}
 use lib.Signed.{mag, leZ}
 use lib.ListN.{length, getD, drop}
 use borrow.Author.Tests.{leb-true, ltb-true, ltb-false, le-ltb}
+use Rattle.laws.specs.Every.{every}
+use Rattle.laws.proofs.Every.{every-at}
 use Rattle.laws.proofs.Ladders.{both}
 use Rattle.refusals.specs.declared.Written.{Written}
 use Rattle.refusals.specs.declared.Written.the-variants.{Frame as HasFrame, Refused as NoFrame}
@@ -25,10 +27,10 @@ use Rattle.requests_read_pathfinder.specs.Reading.{requestOf}
 use Rattle.requests_read_pathfinder.proofs.RoundTrip.{written-reads-back-request}
 use Rattle.restore_order.specs.Slots.{slots, at, writes}
 use Rattle.restore_order.specs.Machine as M
-use Rattle.restore_order.specs.Opening.{pathfinder, every, opened, opening}
+use Rattle.restore_order.specs.Opening.{pathfinder, opened, opening}
 use Rattle.restore_order.proofs.Integers.{clash}
 use Rattle.restore_order.proofs.Ordering.{in-below, first-in}
-use Rattle.restore_order.proofs.Openings.{every-at, passed}
+use Rattle.restore_order.proofs.Openings.{passed}
 use Rattle.restore_order.proofs.Demand3.{slots-apart}
 use Rattle.restore_jobs.specs.declared.Phase.{Phase}
 use Rattle.restore_jobs.specs.declared.Phase.the-variants.{Ready, Waiting, Stopped}

@@ -9,6 +9,7 @@ use Prim.Native.Nat.{ℕ, suc, _≤_}
 use native.Mathlib.Omega.{arith}
 use lib.IntN.{ℤ, pos}
 use lib.ListN.{length, replicate, set}
+use Rattle.laws.specs.Every.{every}
 use Rattle.checks.specs.Crc.{shift, shifts, crcFrom, crcOf}
 use Rattle.refusals.specs.Refused.{refusedWith, checksum}
 use Rattle.refusals.specs.declared.Refusal.{Refusal}
@@ -378,7 +379,7 @@ story =
     ∷ []
 
 pub p11-cut : Supposed plain present present wanted story
-unfolding story plain after writes requestOf parsedOf parsedSet frameOf frameBytes sentAs writtenAs faultOf replyOf judged kindOf shapeOf crcOf crcFrom shifts shift inRange fitsType lows highs typeLows typeHighs O.opening O.every sides
+unfolding story plain after writes requestOf parsedOf parsedSet frameOf frameBytes sentAs writtenAs faultOf replyOf judged kindOf shapeOf crcOf crcFrom shifts shift inRange fitsType lows highs typeLows typeHighs O.opening every sides
 p11-cut =
     record {
       write-rule = plain-obeys;

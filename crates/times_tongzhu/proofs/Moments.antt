@@ -11,8 +11,9 @@ use lib.Dec.{ltb, leb, eqb}
 use lib.ListN.{length, getD, take}
 use lib.Seq.{take-all}
 use Rattle.laws.specs.Choice.{pick}
-use Rattle.laws.proofs.Below.{below, each, holds}
-use Rattle.laws.proofs.Entries.{entries}
+use Rattle.laws.specs.Every.{every}
+use Rattle.laws.proofs.Every.{each, holds}
+use Rattle.laws.specs.Firsts.{firsts}
 use Rattle.laws.proofs.Fronts.{front}
 use Rattle.laws.proofs.Ladders.{both}
 use Rattle.calendar.specs.declared.Bcd.{Bcd}
@@ -45,7 +46,7 @@ few : ℕ → Bool
 few i = leb (getD days i 0) 31
 
 days-few : (y m : ℕ) → 1 ≤ m → m ≤ 12 → daysIn y m ≤ 31
-unfolding daysIn few below days
+unfolding daysIn few every days
 days-few y m low high = go (eqb m 2 && leap y)
   where
     go : (b : Bool) → pick b 29 (getD days (m - 1) 0) ≤ 31
@@ -103,7 +104,7 @@ time-back t h =
     )
 
 pub bytes-back : (p : List ℕ) → length p ≡ 6 → ((i : ℕ) → getD p i 0 < 256) → real (timeIn p) ≡ true → timeBytes (timeIn p) ≡ p
-unfolding entries
+unfolding firsts
 bytes-back p six byte h =
     let s = real-small (timeIn p) h in
     let whole : take 6 p ≡ p = take-all 6 p (omega arith) in

@@ -7,10 +7,10 @@ use native.Mathlib.Omega.{arith}
 use borrow.Author.Tests.{not-true, not-false}
 use borrow.Author.Needs.{needs}
 use Rattle.restore_order.specs.Slots.{at}
-use Rattle.restore_order.specs.Opening.{every}
+use Rattle.laws.specs.Every.{every}
 use Rattle.restore_opening.specs.Verdicts.{fits}
 use Rattle.restore_rules.proofs.Numbers.{from-bits}
-use Rattle.restore_opening.proofs.Every.{every-none, every-more, every-stops}
+use Rattle.laws.proofs.Every.{every-none, every-more, every-stops}
 use Rattle.restore_opening.proofs.all_fit.Statement.{statement}
 use Rattle.restore_opening.proofs.all_fit.Tie as tie
 
