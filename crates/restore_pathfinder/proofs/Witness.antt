@@ -15,6 +15,7 @@ use Rattle.refusals.specs.Refused.{refusedWith, checksum}
 use Rattle.refusals.specs.declared.Refusal.{Refusal}
 use Rattle.frames_pathfinder.specs.Reading.{frameOf}
 use Rattle.frames_written_pathfinder.specs.Writing.{frameBytes}
+use Rattle.types_pathfinder.specs.Types as types
 use Rattle.registers_pathfinder.specs.Registers.{typeLows, typeHighs, lows, highs, fitsType, inRange}
 use Rattle.opcodes_pathfinder.specs.Opcodes.{isFailure, kindOf, shapeOf}
 use Rattle.records_pathfinder.specs.Replies.{judged, replyOf}
@@ -379,7 +380,7 @@ story =
     ∷ []
 
 pub p11-cut : Supposed plain present present wanted story
-unfolding story plain after writes requestOf parsedOf parsedSet frameOf frameBytes sentAs writtenAs faultOf replyOf judged kindOf shapeOf crcOf crcFrom shifts shift inRange fitsType lows highs typeLows typeHighs O.opening every sides
+unfolding story plain after writes requestOf parsedOf parsedSet frameOf frameBytes sentAs writtenAs faultOf replyOf judged kindOf shapeOf crcOf crcFrom shifts shift inRange fitsType lows highs typeLows typeHighs types.settings O.opening every sides
 p11-cut =
     record {
       write-rule = plain-obeys;

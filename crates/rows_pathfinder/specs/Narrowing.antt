@@ -7,11 +7,13 @@ use lib.IntN.{ℤ, pos, _*ℤ_}
 use Rattle.laws.specs.Choice.{pick}
 use Rattle.refusals.specs.Refused.{refusedWith, request, shape}
 use Rattle.signs.specs.Signed.{signedOf, bitsOf}
+use Rattle.types_pathfinder.specs.declared.RowType.{RowType}
+use Rattle.types_pathfinder.specs.declared.RowType.the-variants.{U8, I8, U16, I16, U32, I32, Bool as Boolean, TenMillivolts as Ten, Bits, NoRow, NoReply}
+use Rattle.types_pathfinder.specs.Types.{typeAt}
 use Rattle.rows_pathfinder.specs.declared.TenMillivolts.{TenMillivolts as Tens}
 use Rattle.rows_pathfinder.specs.declared.Millivolts.{Millivolts}
 use Rattle.rows_pathfinder.specs.declared.Row.{Row}
 use Rattle.rows_pathfinder.specs.declared.Row.the-variants.{Number, TenMillivolts, Truth, Missing, Refused}
-use Rattle.rows_pathfinder.specs.Types.{u8, i8, u16, i16, u32, i32, bool, tenMillivolts, bits, noRow, typeAt}
 
 -- counts of ten millivolts as millivolts
 abbrev pub millivoltsOf : Tens → Millivolts
@@ -32,18 +34,18 @@ abbrev pub extreme : ℕ → ℕ → Bool
 extreme k n = eqb n (2 ^ k - 1) || eqb n (2 ^ k)
 
 -- n is the word's 32 bits; `may` is whether extreme values mean no data
-unfoldable pub byBits : ℕ → Bool → ℕ → Row
-byBits t may n =
-    pick (eqb t u8) (numberRow (may && largest 8 (n % 256)) (pos (n % 256)))
-    (pick (eqb t i8) (numberRow (may && extreme 7 (n % 256)) (signedOf 7 (n % 256)))
-    (pick (eqb t u16) (numberRow (may && largest 16 (n % 65536)) (pos (n % 65536)))
-    (pick (eqb t i16) (numberRow (may && extreme 15 (n % 65536)) (signedOf 15 (n % 65536)))
-    (pick (eqb t u32) (numberRow (may && largest 32 n) (pos n))
-    (pick (eqb t i32) (numberRow (may && extreme 31 n) (signedOf 31 n))
-    (pick (eqb t bool) (Truth (not (eqb n 0)))
-    (pick (eqb t tenMillivolts) (tenRow (may && extreme 15 (n % 65536)) (n % 65536))
-    (pick (eqb t bits) (Number (pos n))
-    (pick (eqb t noRow) (Refused (refusedWith shape)) (Refused (refusedWith request)))))))))))
+unfoldable pub byBits : RowType → Bool → ℕ → Row
+byBits U8 may n = numberRow (may && largest 8 (n % 256)) (pos (n % 256))
+byBits I8 may n = numberRow (may && extreme 7 (n % 256)) (signedOf 7 (n % 256))
+byBits U16 may n = numberRow (may && largest 16 (n % 65536)) (pos (n % 65536))
+byBits I16 may n = numberRow (may && extreme 15 (n % 65536)) (signedOf 15 (n % 65536))
+byBits U32 may n = numberRow (may && largest 32 n) (pos n)
+byBits I32 may n = numberRow (may && extreme 31 n) (signedOf 31 n)
+byBits Boolean may n = Truth (not (eqb n 0))
+byBits Ten may n = tenRow (may && extreme 15 (n % 65536)) (n % 65536)
+byBits Bits may n = Number (pos n)
+byBits NoRow may n = Refused (refusedWith shape)
+byBits NoReply may n = Refused (refusedWith request)
 
 -- row and word of a reply: "reply not 01 to 04: 7, then no such row: 8"
 unfoldable pub rowOf : ℕ → ℕ → ℤ → Row

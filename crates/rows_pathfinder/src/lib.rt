@@ -5,6 +5,8 @@ use signs::bits32;
 use signs::signed8;
 use signs::signed16;
 use signs::signed32;
+use types_pathfinder::RowType;
+use types_pathfinder::row_type;
 ghost use mathlib.Core.Path.{_≡_};
 ghost use mathlib.Core.Bool.{_&&_, _||_};
 ghost use Prim.Native.Nat.{_-_, _%_, _<_};
@@ -12,7 +14,6 @@ ghost use lib.Dec.{eqb};
 ghost use lib.IntN.{pos};
 ghost use Rattle.refusals.specs.Refused.{refusedWith};
 ghost use Rattle.signs.specs.Signed.{signedOf};
-ghost use Rattle.rows_pathfinder.specs.Types.{wordsAt, listedAt, settings, infos, typeAt};
 ghost use Rattle.rows_pathfinder.specs.Narrowing.{millivoltsOf, numberRow, tenRow, byBits, rowOf};
 
 // A reading in units of ten millivolts.
@@ -31,146 +32,11 @@ pub enum Row {
     Refused(Refusal),
 }
 
-// Types of rows. The two error bitfields are unsigned numbers that are never missing.
-const U8: u8 = 0;
-
-const I8: u8 = 1;
-
-const U16: u8 = 2;
-
-const I16: u8 = 3;
-
-const U32: u8 = 4;
-
-const I32: u8 = 5;
-
-const BOOL: u8 = 6;
-
-const TEN_MILLIVOLTS: u8 = 7;
-
-const BITS: u8 = 8;
-
-// There is no such row, or no such reply.
-const NO_ROW: u8 = 9;
-
-const NO_REPLY: u8 = 10;
-
-// Reply 02.
-const SETTINGS: [u8; 50] = [
-    I16,
-    U8,
-    U8,
-    I8,
-    I8,
-    U8,
-    I8,
-    I8,
-    U8,
-    I8,
-    I8,
-    U8,
-    I8,
-    I8,
-    U8,
-    U8,
-    U8,
-    U16,
-    U8,
-    U8,
-    U16,
-    I32,
-    U8,
-    I32,
-    U8,
-    U8,
-    U32,
-    U8,
-    U8,
-    U8,
-    U8,
-    I32,
-    I32,
-    U8,
-    I32,
-    U8,
-    I32,
-    U8,
-    I16,
-    U8,
-    I16,
-    U8,
-    U32,
-    BOOL,
-    BOOL,
-    BOOL,
-    BOOL,
-    U32,
-    U8,
-    U32,
-];
-
-// Reply 03.
-const INFO: [u8; 53] = [
-    TEN_MILLIVOLTS,
-    I32,
-    U32,
-    U32,
-    U32,
-    U16,
-    BITS,
-    BITS,
-    I32,
-    I32,
-    U8,
-    U8,
-    U8,
-    U8,
-    U8,
-    U8,
-    I32,
-    U8,
-    U8,
-    U8,
-    U8,
-    I32,
-    I32,
-    I32,
-    I32,
-    U16,
-    I32,
-    I32,
-    I32,
-    I32,
-    I32,
-    I32,
-    U16,
-    U16,
-    U16,
-    U16,
-    U16,
-    U16,
-    U16,
-    U16,
-    U16,
-    U16,
-    U16,
-    U16,
-    U16,
-    U16,
-    U8,
-    U16,
-    U16,
-    U8,
-    U32,
-    U32,
-    TEN_MILLIVOLTS,
-];
-
 // Narrows a word of reply 01 to 04 to its row's type.
 pub fn narrow(reply: u8, row: u8, word: i32) -> Row
     ensures { λ r. ⌜ r ≡ rowOf reply row word ⌝ }
 {
-    by_bits(type_of(reply, row), reply == 0x03, bits32(word))
+    by_bits(row_type(reply, row), reply == 0x03, bits32(word))
 }
 
 // The one conversion between the two units.
@@ -180,57 +46,22 @@ pub fn millivolts_of(v: TenMillivolts) -> Millivolts
     Millivolts(v.0 as i32 * 10)
 }
 
-// The type of a row.
-fn type_of(reply: u8, row: u8) -> u8
-    ensures { λ r. ⌜ r ≡ typeAt reply row ⌝ }
-{
-    match reply {
-        0x01 => words(row, 3),
-        0x02 => setting(row),
-        0x03 => info(row),
-        0x04 => words(row, 16),
-        _ => NO_REPLY,
-    }
-}
-
-fn words(row: u8, count: u8) -> u8
-    ensures { λ r. ⌜ r ≡ wordsAt count row ⌝ }
-{
-    if row < count { I32 } else { NO_ROW }
-}
-
-fn setting(row: u8) -> u8
-    ensures { λ r. ⌜ r ≡ listedAt settings row ⌝ }
-{
-    if row < 50 {
-        SETTINGS[row as usize]
-    } else {
-        NO_ROW
-    }
-}
-
-fn info(row: u8) -> u8
-    ensures { λ r. ⌜ r ≡ listedAt infos row ⌝ }
-{
-    if row < 53 { INFO[row as usize] } else { NO_ROW }
-}
-
 // A word's 32 bits as this type. `may` says whether the type's extreme values mean no data.
-fn by_bits(kind: u8, may: bool, n: u32) -> Row
+fn by_bits(kind: RowType, may: bool, n: u32) -> Row
     ensures { λ r. ⌜ r ≡ byBits kind may n ⌝ }
 {
     match kind {
-        0 => unsigned(may, n % 256, 255),
-        1 => number(edge(may, n % 256, 128), wide8((n % 256) as u8)),
-        2 => unsigned(may, n % 65536, 65535),
-        3 => number(edge(may, n % 65536, 32768), wide16((n % 65536) as u16)),
-        4 => unsigned(may, n, 4294967295),
-        5 => number(edge(may, n, 2147483648), wide32(n)),
-        6 => Row::Truth(n != 0),
-        7 => ten_millivolts(edge(may, n % 65536, 32768), (n % 65536) as u16),
-        8 => unsigned(false, n, 4294967295),
-        9 => refused(refusals::SHAPE),
-        _ => refused(refusals::REQUEST),
+        RowType::U8 => unsigned(may, n % 256, 255),
+        RowType::I8 => number(edge(may, n % 256, 128), wide8((n % 256) as u8)),
+        RowType::U16 => unsigned(may, n % 65536, 65535),
+        RowType::I16 => number(edge(may, n % 65536, 32768), wide16((n % 65536) as u16)),
+        RowType::U32 => unsigned(may, n, 4294967295),
+        RowType::I32 => number(edge(may, n, 2147483648), wide32(n)),
+        RowType::Bool => Row::Truth(n != 0),
+        RowType::TenMillivolts => ten_millivolts(edge(may, n % 65536, 32768), (n % 65536) as u16),
+        RowType::Bits => unsigned(false, n, 4294967295),
+        RowType::NoRow => refused(refusals::SHAPE),
+        RowType::NoReply => refused(refusals::REQUEST),
     }
 }
 

@@ -1,8 +1,8 @@
--- `rows_pathfinder::words` meets its contract: each way out rewrites with its test.
+-- `types_pathfinder::words` meets its contract: each way out rewrites with its test.
 -- Assumes nothing.
 use borrow.Author.Tests.{lt-ltb, le-ltb}
-use Rattle.rows_pathfinder.proofs.words.Statement.{statement}
-use Rattle.rows_pathfinder.proofs.words.Tie as tie
+use Rattle.types_pathfinder.proofs.words.Statement.{statement}
+use Rattle.types_pathfinder.proofs.words.Tie as tie
 
 returns : tie.Need-returns
 returns c = simp (lt-ltb _ _ (c .if1 .taken))

@@ -1,10 +1,10 @@
--- `rows_pathfinder::type_of` meets its contract: each reply by computing, any other past all tests.
+-- `types_pathfinder::row_type` meets its contract: each reply by computing, any other past all tests.
 -- Assumes nothing.
 use borrow.Author.Tests.{ne-eqb}
-use Rattle.rows_pathfinder.specs.Types.{typeAt}
+use Rattle.types_pathfinder.specs.Types.{typeAt}
 use borrow.Author.Needs.{needs}
-use Rattle.rows_pathfinder.proofs.type_of.Statement.{statement}
-use Rattle.rows_pathfinder.proofs.type_of.Tie as tie
+use Rattle.types_pathfinder.proofs.row_type.Statement.{statement}
+use Rattle.types_pathfinder.proofs.row_type.Tie as tie
 
 words-requires : tie.Need-words-requires
 words-requires c κs = search needs
@@ -38,8 +38,8 @@ returns-5 : tie.Need-returns-5
 unfolding typeAt
 returns-5 c = let n = c .match .rest in simp (ne-eqb _ _ (n .0 .0 .0 .1), ne-eqb _ _ (n .0 .0 .1), ne-eqb _ _ (n .0 .1), ne-eqb _ _ (n .1))
 
-pub type-of-spec : {M : Type 1} → statement M
-type-of-spec =
+pub row-type-spec : {M : Type 1} → statement M
+row-type-spec =
     tie.close
     (tie.spec
     words-requires
