@@ -37,11 +37,11 @@ pub fn put_u8(numbers: &[u8], at: usize, row: &mut [i32]) -> u8
     if row.len() - at < numbers.len() {
         return refusals::ROOM;
     }
-    let mut i = 0;
-    while i < numbers.len() {
-        let byte = numbers[i] as i32;
-        row[at + i] = byte;
-        i += 1;
+    let mut k = 0;
+    while k < numbers.len() {
+        let byte = numbers[k] as i32;
+        row[at + k] = byte;
+        k += 1;
     }
     0
 }
@@ -57,11 +57,11 @@ pub fn put_u16(numbers: &[u16], at: usize, row: &mut [i32]) -> u8
     if row.len() - at < numbers.len() {
         return refusals::ROOM;
     }
-    let mut i = 0;
-    while i < numbers.len() {
-        let half = numbers[i] as i32;
-        row[at + i] = half;
-        i += 1;
+    let mut j = 0;
+    while j < numbers.len() {
+        let half = numbers[j] as i32;
+        row[at + j] = half;
+        j += 1;
     }
     0
 }
