@@ -307,6 +307,17 @@ static void restore(void) {
     CHECK(memcmp(job, kept, sizeof job) == 0 && untouched(out, sizeof out));
     CHECK(tracksaffron_restore_next(job, 262, out, sizeof out) == ANSWER(TRACKSAFFRON_RESTORE_FRAME, 11) && out[3] == 4 && out[4] == 40);
     CHECK(tracksaffron_restore_next(job, 262, out, sizeof out) == TRACKSAFFRON_REFUSED_TURN);
+    /* A job that waits for a register that is not its first write: one that differs too, one that does not, none of the 15, none of the 50. */
+    for (const uint8_t *other = (const uint8_t *)"\x03\x00\x0F\x32\xFF", *end = other + 5; other < end; other++) {
+        job[261] = *other;
+        memcpy(kept, job, sizeof job);
+        FRESH(out);
+        CHECK(tracksaffron_restore_next(job, 262, out, sizeof out) == TRACKSAFFRON_REFUSED_SHAPE);
+        CHECK(tracksaffron_restore_reply(job, 262, reply, 6) == TRACKSAFFRON_REFUSED_SHAPE);
+        CHECK(tracksaffron_restore_left(job, 262) == TRACKSAFFRON_REFUSED_SHAPE);
+        CHECK(memcmp(job, kept, sizeof job) == 0 && untouched(out, sizeof out));
+    }
+    job[261] = 4;
     CHECK(tracksaffron_restore_reply(job, 262, reply, 5) == TRACKSAFFRON_REFUSED_SHORT);
     CHECK(tracksaffron_restore_reply(job, 262, reply, 6) == ANSWER(TRACKSAFFRON_RESTORE_WRITTEN, 0));
     CHECK(tracksaffron_restore_next(job, 262, out, sizeof out) == ANSWER(TRACKSAFFRON_RESTORE_FRAME, 11) && out[3] == 3 && out[4] == 45);

@@ -260,7 +260,8 @@ uint64_t tracksaffron_old_read(const uint8_t *s, size_t len, int32_t *row, size_
 /* ---- the restore of Pathfinder settings 0 to 14
  *
  * The job lives in TRACKSAFFRON_JOB_BYTES bytes of the caller's. Bytes of another length are refused with 8 before all else; so are, but for
- * open, bytes whose phase (byte 260) is none of 0 ready, 1 waiting and 2 stopped. */
+ * open, bytes whose phase (byte 260) is none of 0 ready, 1 waiting and 2 stopped, and those of a job that waits for a register (byte 261) other than
+ * the one that it writes first. */
 
 #define TRACKSAFFRON_JOB_BYTES 262
 #define TRACKSAFFRON_PRESENT_WORDS 50

@@ -9,7 +9,8 @@ use borrow.Author.Tests.{le-leb, lt-leb}
 use lib.IntN.{ℤ}
 use lib.ListN.{length, getD, take, drop, set, length-set}
 use lib.Seq.{paste, paste-zero, paste-suc, take-all}
-use Rattle.exports_parts.specs.Parts.{placed}
+use Rattle.refusals.specs.Refused.{room}
+use Rattle.exports_parts.specs.Parts.{fitCode, placed}
 
 -- n values are to stand from the place `at` on: the first i do, all else is as it was
 abbrev pub Standing : ℕ → ℕ → List ℤ → List ℤ → List ℤ → ℕ → Type 0
@@ -42,3 +43,12 @@ module _ (n at : ℕ) (values old : List ℤ) (size : length values ≡ n) where
   pub none-placed : length old < at + n → old ≡ placed at values old
   unfolding placed
   none-placed h = let k : length old < at + length values = omega arith in simp (lt-leb _ _ k)
+
+module _ (at n size : ℕ) where
+  pub they-fit : at + n ≤ size → 0 ≡ fitCode at n size
+  unfolding fitCode
+  they-fit h = simp (le-leb _ _ h)
+
+  pub none-fits : size < at + n → room ≡ fitCode at n size
+  unfolding fitCode
+  none-fits h = simp (lt-leb _ _ h)

@@ -4,12 +4,14 @@ use mathlib.Core.Path.{_≡_, refl, sym, ap, ap₂, _∙_}
 use mathlib.Core.List.{List, [], _∷_, _++_, append-assoc, append-nil}
 use Prim.Native.Nat.{ℕ, _+_, _≤_, _<_}
 use native.Mathlib.Omega.{arith}
-use borrow.Author.Tests.{le-leb, lt-ltb, le-ltb}
+use borrow.Author.Tests.{le-leb, lt-leb, lt-ltb, le-ltb, leb-true, leb-false}
 use lib.IntN.{ℤ}
+use lib.Dec.{leb}
 use lib.ListN.{length, drop, length-append, length-drop}
 use lib.Seq.{drop-append-add, take-at, drop-drop}
+use Rattle.laws.proofs.Ladders.{past, into}
 use Rattle.refusals.specs.Refused.{room}
-use Rattle.exports_parts.specs.Parts.{placed}
+use Rattle.exports_parts.specs.Parts.{fitCode, placed}
 use Rattle.exports_rows.specs.Told.{codedAs, roomCode, over, behind, joined}
 
 -- ---- parts one after the other
@@ -45,10 +47,32 @@ module _ {A : Type 0} (kind : ℕ) (values old : List A) (h : length values ≤ 
   unfolding over
   values-over = simp (le-ltb _ _ h)
 
-pub front-placed : (values old : List ℤ) → length values ≤ length old → placed 0 values old ≡ over values old
+front-placed : (values old : List ℤ) → length values ≤ length old → placed 0 values old ≡ over values old
 unfolding placed
 front-placed values old h =
     let e : 0 + length values ≡ length values = omega arith in rw (e, le-leb _ _ h) (values-over 0 values old h)
+
+none-placed : (values old : List ℤ) → length old < 0 + length values → placed 0 values old ≡ old
+unfolding placed
+none-placed values old h = simp (lt-leb _ _ h)
+
+-- numbers at the front of a row, by what their writer answers
+module _ (kind : ℕ) (values old row : List ℤ) (answer : ℕ) (told : answer ≡ fitCode 0 (length values) (length old))
+    (filled : row ≡ placed 0 values old) where
+  pub numbers-refused : (answer ≡ 0 → ⊥) → (answer ≡ roomCode kind (length values) (length old)) × (row ≡ over values old)
+  unfolding fitCode
+  numbers-refused h =
+      let test = past (leb (0 + length values) (length old)) 0 room answer h told in
+      let short : length old < 0 + length values = leb-false (0 + length values) (length old) (test .0) in
+      let none = no-room kind values old (omega arith) in
+      (test .1 ∙ none .0, filled ∙ none-placed values old short ∙ none .1)
+
+  pub numbers-told : answer ≡ 0 → (codedAs kind (length values) ≡ roomCode kind (length values) (length old)) × (row ≡ over values old)
+  unfolding fitCode
+  numbers-told h =
+      let test = into (leb (0 + length values) (length old)) 0 room answer (λ e. omega (arith, h, e)) told in
+      let fits : length values ≤ length old = omega (arith, leb-true (0 + length values) (length old) (test .0)) in
+      (kind-told kind values old fits, filled ∙ front-placed values old fits)
 
 -- ---- a whole answer in parts
 

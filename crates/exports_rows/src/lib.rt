@@ -29,10 +29,10 @@ pub fn put_numbers(kind: u8, numbers: &[i32], row: &mut [i32]) -> u64
     ensures answer { λ r. ⌜ r ≡ roomCode kind (length (now (numbers .entry))) (length (now (row .entry))) ⌝ }
     ensures filled { λ r. ⌜ now (row .exit) ≡ over (now (numbers .entry)) (now (row .entry)) ⌝ }
 {
-    if row.len() < numbers.len() {
-        return refusals::ROOM as u64;
+    let refused = put_i32(numbers, 0, row);
+    if refused != 0 {
+        return refused as u64;
     }
-    put_i32(numbers, 0, row);
     coded(kind, numbers.len())
 }
 

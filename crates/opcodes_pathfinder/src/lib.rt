@@ -1,11 +1,13 @@
 // The opcodes of Pathfinder replies (000, Opcode Details; 01, Pathfinder): which there are, and what the reply to each request holds.
 ghost use mathlib.Core.Path.{_≡_};
-ghost use Rattle.opcodes_pathfinder.specs.Opcodes.{kindOf, shapeOf};
+ghost use Rattle.opcodes_pathfinder.specs.Opcodes.{isListed, kindOf, shapeOf};
 
-// What an opcode is in a reply.
+// What a reply is, by its opcode.
 pub enum Kind {
     Failure,
-    Listed,
+    // The reply to the request asked.
+    Asked,
+    // Another reply, or there is no such request.
     Other,
 }
 
@@ -18,14 +20,36 @@ pub enum Shape {
     Unlisted,
 }
 
-// Sorts the opcodes of replies.
-pub fn kind_of(opcode: u8) -> Kind
-    ensures { λ r. ⌜ r ≡ kindOf opcode ⌝ }
+// Sorts a reply to the request `asked` by its opcode.
+pub fn kind_of(asked: u8, opcode: u8) -> Kind
+    ensures { λ r. ⌜ r ≡ kindOf asked opcode ⌝ }
 {
     match opcode {
-        0x20..=0x24 | 0x26 | 0x27 | 0x2D => Kind::Failure,
-        0x01..=0x05 | 0x0E => Kind::Listed,
+        0x20..=0x24 | 0x26 | 0x27 | 0x2D => {
+            if is_listed(asked) {
+                Kind::Failure
+            } else {
+                Kind::Other
+            }
+        }
+        0x01..=0x05 | 0x0E => {
+            if opcode == asked {
+                Kind::Asked
+            } else {
+                Kind::Other
+            }
+        }
         _ => Kind::Other,
+    }
+}
+
+// Whether there is such a request.
+fn is_listed(asked: u8) -> bool
+    ensures { λ r. ⌜ r ≡ isListed asked ⌝ }
+{
+    match asked {
+        0x01..=0x05 | 0x0E => true,
+        _ => false,
     }
 }
 

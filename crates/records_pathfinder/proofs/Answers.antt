@@ -1,6 +1,6 @@
 -- The ways out of the reply's rules, each from the facts that the code has there; and what an answer says of the data and the room.
 -- Assumes nothing.
-use mathlib.Core.Path.{_≡_, refl, sym, ap}
+use mathlib.Core.Path.{_≡_, sym, ap, _∙_}
 use mathlib.Core.List.{List}
 use Prim.Native.Nat.{ℕ, _*_, _<_, _≤_}
 use native.Mathlib.Omega.{arith}
@@ -12,13 +12,13 @@ use Rattle.refusals.specs.Refused.{refusedWith, request, shape, room}
 use Rattle.frames_pathfinder.specs.declared.Frame.the-variants.{Whole, Refused as NoFrame}
 use Rattle.frames_pathfinder.specs.Reading.{frameOf}
 use Rattle.opcodes_pathfinder.specs.declared.Kind.{Kind}
-use Rattle.opcodes_pathfinder.specs.declared.Kind.the-variants.{Failure as Fails, Listed, Other}
+use Rattle.opcodes_pathfinder.specs.declared.Kind.the-variants.{Failure as Fails, Asked, Other}
 use Rattle.opcodes_pathfinder.specs.declared.Shape.{Shape}
 use Rattle.opcodes_pathfinder.specs.declared.Shape.the-variants.{Words as HasWords, Name as HasName, Nothing, Unlisted}
 use Rattle.records_pathfinder.specs.declared.Reply.{Reply}
 use Rattle.records_pathfinder.specs.declared.Reply.the-variants.{Words, Name, Failure, Refused}
 use Rattle.opcodes_pathfinder.specs.Opcodes.{kindOf, shapeOf}
-use Rattle.records_pathfinder.specs.Replies.{wordsJudged, shaped, byKind, byShape, judged, ofFrame, replyOf}
+use Rattle.records_pathfinder.specs.Replies.{wordsJudged, shaped, byKind, judged, ofFrame, replyOf}
 
 -- ---- words
 
@@ -36,40 +36,24 @@ module _ (n len places : ℕ) where
     unfolding wordsJudged
     words-read h = simp (eq-eqb _ _ size, le-ltb _ _ h)
 
--- ---- by shape and kind
+-- ---- by kind
 
--- a listed request goes by the reply's kind
-pub listed-request : (sh : Shape) (asked op len places bytes : ℕ) → (sh ≡ Unlisted → ⊥)
-    → byShape sh asked op len places bytes ≡ byKind (kindOf op) asked op len (shaped sh len places bytes)
-listed-request (HasWords n) asked op len places bytes h = refl
-listed-request HasName asked op len places bytes h = refl
-listed-request Nothing asked op len places bytes h = refl
-listed-request Unlisted asked op len places bytes h = absurd (h refl)
-
-module _ (asked op len places bytes : ℕ) (sh : Shape) (e : sh ≡ shapeOf asked) where
-  pub unlisted-request : sh ≡ Unlisted → Refused (refusedWith request) ≡ judged asked op len places bytes
+module _ (asked op len places bytes : ℕ) (k : Kind) (sorted : k ≡ kindOf asked op) where
+  by-kind : byKind k op len (shaped (shapeOf asked) len places bytes) ≡ judged asked op len places bytes
   unfolding judged
-  unlisted-request h = rw (← e, h)
+  by-kind = ap (λ (q : Kind). byKind q op len (shaped (shapeOf asked) len places bytes)) sorted
 
-  module _ (some : sh ≡ Unlisted → ⊥) (k : Kind) (sorted : k ≡ kindOf op) where
-    pub by-kind : byKind k asked op len (shaped sh len places bytes) ≡ judged asked op len places bytes
-    unfolding judged
-    by-kind = rw (← e, sorted) (sym (listed-request sh asked op len places bytes some))
+  pub failed : k ≡ Fails → len ≡ 0 → Failure op ≡ judged asked op len places bytes
+  failed t h = sym (simp (t, eq-eqb _ _ h) at (sym by-kind))
 
-    pub failed : k ≡ Fails → len ≡ 0 → Failure op ≡ judged asked op len places bytes
-    failed t h = sym (simp (t, eq-eqb _ _ h) at (sym by-kind))
+  pub failed-long : k ≡ Fails → (len ≡ 0 → ⊥) → Refused (refusedWith shape) ≡ judged asked op len places bytes
+  failed-long t h = sym (simp (t, ne-eqb _ _ h) at (sym by-kind))
 
-    pub failed-long : k ≡ Fails → (len ≡ 0 → ⊥) → Refused (refusedWith shape) ≡ judged asked op len places bytes
-    failed-long t h = sym (simp (t, ne-eqb _ _ h) at (sym by-kind))
+  pub asked-reply : k ≡ Asked → (sh : Shape) → sh ≡ shapeOf asked → shaped sh len places bytes ≡ judged asked op len places bytes
+  asked-reply t sh e = ap (λ (q : Shape). shaped q len places bytes) e ∙ sym (simp t at (sym by-kind))
 
-    pub other-reply : k ≡ Other → Refused (refusedWith request) ≡ judged asked op len places bytes
-    other-reply t = sym (simp t at (sym by-kind))
-
-    pub another-reply : k ≡ Listed → (op ≡ asked → ⊥) → Refused (refusedWith request) ≡ judged asked op len places bytes
-    another-reply t h = sym (simp (t, ne-eqb _ _ h) at (sym by-kind))
-
-    pub asked-reply : k ≡ Listed → op ≡ asked → shaped sh len places bytes ≡ judged asked op len places bytes
-    asked-reply t h = sym (simp (t, eq-eqb _ _ h) at (sym by-kind))
+  pub other-reply : k ≡ Other → Refused (refusedWith request) ≡ judged asked op len places bytes
+  other-reply t = sym (simp t at (sym by-kind))
 
 -- ---- from the frame to the reply
 
@@ -104,17 +88,11 @@ good-name n =
     }
 
 -- such an answer is the one for the asked shape
-good-kind : (k : Kind) (asked op len : ℕ) (answer r : Reply) → Good r → r ≡ byKind k asked op len answer → r ≡ answer
-good-kind Fails asked op len answer r g h =
+good-kind : (k : Kind) (op len : ℕ) (answer r : Reply) → Good r → r ≡ byKind k op len answer → r ≡ answer
+good-kind Fails op len answer r g h =
     absurd (g .not-refused _ (past (eqb len 0) _ _ _ (g .not-failure op) h .1))
-good-kind Listed asked op len answer r g h = into (eqb op asked) _ _ _ (g .not-refused _) h .1
-good-kind Other asked op len answer r g h = absurd (g .not-refused _ h)
-
-good-shape : (sh : Shape) (asked op len places bytes : ℕ) (r : Reply) → Good r → r ≡ byShape sh asked op len places bytes → r ≡ shaped sh len places bytes
-good-shape (HasWords n) asked op len places bytes r g h = good-kind (kindOf op) asked op len _ r g h
-good-shape HasName asked op len places bytes r g h = good-kind (kindOf op) asked op len _ r g h
-good-shape Nothing asked op len places bytes r g h = good-kind (kindOf op) asked op len _ r g h
-good-shape Unlisted asked op len places bytes r g h = absurd (g .not-refused _ h)
+good-kind Asked op len answer r g h = h
+good-kind Other op len answer r g h = absurd (g .not-refused _ h)
 
 words-of : (sh : Shape) (n len places bytes : ℕ) → Words n ≡ shaped sh len places bytes → (len ≡ 4 * n) × (n ≤ places)
 unfolding wordsJudged
@@ -154,8 +132,8 @@ name-of Unlisted n len places bytes h = absurd (good-name n .not-refused _ h)
 module _ (asked op len places bytes n : ℕ) where
   pub words-fit : Words n ≡ judged asked op len places bytes → (len ≡ 4 * n) × (n ≤ places)
   unfolding judged
-  words-fit h = words-of (shapeOf asked) n len places bytes (good-shape (shapeOf asked) asked op len places bytes _ (good-words n) h)
+  words-fit h = words-of (shapeOf asked) n len places bytes (good-kind (kindOf asked op) op len _ _ (good-words n) h)
 
   pub name-fit : Name n ≡ judged asked op len places bytes → (n ≡ len) × (len ≤ bytes)
   unfolding judged
-  name-fit h = name-of (shapeOf asked) n len places bytes (good-shape (shapeOf asked) asked op len places bytes _ (good-name n) h)
+  name-fit h = name-of (shapeOf asked) n len places bytes (good-kind (kindOf asked op) op len _ _ (good-name n) h)

@@ -12,7 +12,7 @@ use Rattle.frames_pathfinder.specs.declared.Frame.the-variants.{Whole, Refused 
 use Rattle.frames_pathfinder.specs.Reading.{frameOf}
 use Rattle.records_pathfinder.specs.Words.{words}
 use Rattle.opcodes_pathfinder.specs.declared.Kind.{Kind}
-use Rattle.opcodes_pathfinder.specs.declared.Kind.the-variants.{Failure as Fails, Listed, Other}
+use Rattle.opcodes_pathfinder.specs.declared.Kind.the-variants.{Failure as Fails, Asked, Other}
 use Rattle.opcodes_pathfinder.specs.declared.Shape.{Shape}
 use Rattle.opcodes_pathfinder.specs.declared.Shape.the-variants.{Words as HasWords, Name as HasName, Nothing, Unlisted}
 use Rattle.opcodes_pathfinder.specs.Opcodes.{kindOf, shapeOf}
@@ -31,21 +31,14 @@ shaped HasName len places bytes = pick (ltb bytes len) (Refused (refusedWith roo
 shaped Nothing len places bytes = pick (eqb len 0) Written (Refused (refusedWith shape))
 shaped Unlisted len places bytes = Refused (refusedWith request)
 
--- a whole frame by its opcode: a failure has no data; another opcode than the one asked is refused
-abbrev pub byKind : Kind → ℕ → ℕ → ℕ → Reply → Reply
-byKind Fails asked op len answer = pick (eqb len 0) (Failure op) (Refused (refusedWith shape))
-byKind Listed asked op len answer = pick (eqb op asked) answer (Refused (refusedWith request))
-byKind Other asked op len answer = Refused (refusedWith request)
-
--- a request that is not listed comes before any failure
-abbrev pub byShape : Shape → ℕ → ℕ → ℕ → ℕ → ℕ → Reply
-byShape (HasWords n) asked op len places bytes = byKind (kindOf op) asked op len (shaped (HasWords n) len places bytes)
-byShape HasName asked op len places bytes = byKind (kindOf op) asked op len (shaped HasName len places bytes)
-byShape Nothing asked op len places bytes = byKind (kindOf op) asked op len (shaped Nothing len places bytes)
-byShape Unlisted asked op len places bytes = Refused (refusedWith request)
+-- a whole frame by what its opcode makes it: a failure has no data; what is no reply to the request asked is refused
+abbrev pub byKind : Kind → ℕ → ℕ → Reply → Reply
+byKind Fails op len answer = pick (eqb len 0) (Failure op) (Refused (refusedWith shape))
+byKind Asked op len answer = answer
+byKind Other op len answer = Refused (refusedWith request)
 
 unfoldable pub judged : ℕ → ℕ → ℕ → ℕ → ℕ → Reply
-judged asked op len places bytes = byShape (shapeOf asked) asked op len places bytes
+judged asked op len places bytes = byKind (kindOf asked op) op len (shaped (shapeOf asked) len places bytes)
 
 abbrev pub ofFrame : ℕ → ℕ → ℕ → Frame → Reply
 ofFrame asked places bytes (NoFrame r) = Refused r

@@ -64,26 +64,16 @@ pub fn read_reply(asked: u8, s: &[u8], row: &mut [i32], name: &mut [u8]) -> Repl
 fn judge(asked: u8, opcode: u8, len: usize, words: usize, bytes: usize) -> Reply
     ensures { λ r. ⌜ r ≡ judged asked opcode len words bytes ⌝ }
 {
-    let shape = shape_of(asked);
-    if let Shape::Unlisted = shape {
-        return refused(refusals::REQUEST);
-    }
-    let kind = kind_of(opcode);
+    let kind = kind_of(asked, opcode);
     match kind {
         Kind::Failure => {
-            if len == 0 {
-                Reply::Failure(opcode)
-            } else {
+            if 0 < len {
                 refused(refusals::SHAPE)
-            }
-        }
-        Kind::Listed => {
-            if opcode == asked {
-                judge_shape(shape, len, words, bytes)
             } else {
-                refused(refusals::REQUEST)
+                Reply::Failure(opcode)
             }
         }
+        Kind::Asked => judge_shape(shape_of(asked), len, words, bytes),
         Kind::Other => refused(refusals::REQUEST),
     }
 }

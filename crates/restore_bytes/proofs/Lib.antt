@@ -1,3 +1,4 @@
 pub mod Bytes
 pub mod Held
 pub mod RoundTrip
+pub mod Standing

@@ -1,4 +1,5 @@
--- A job's bytes hold that job: `job-back`. Words read back one by one, since each value does (`value-reads-back`); the phase by its three cases.
+-- A job's bytes hold that job (`job-back`), and are taken for one (`is-job-back`). Words read back one by one, since each value does
+-- (`value-reads-back`); the phase by its three cases.
 -- Assumes nothing.
 use mathlib.Core.Path.{_≡_, refl, sym, ap, ap₂, _∙_}
 use mathlib.Core.Bool.{true}
@@ -16,7 +17,7 @@ use Rattle.requests_read_pathfinder.proofs.RoundTrip.{value-reads-back}
 use Rattle.restore_jobs.specs.declared.Phase.{Phase}
 use Rattle.restore_jobs.specs.declared.Phase.the-variants.{Ready, Waiting, Stopped}
 use Rattle.restore_jobs.specs.declared.Job.{Job}
-use Rattle.restore_bytes.specs.Jobs.{wordBytes, phaseByte, registerByte, phaseBytes, jobBytes, isJob, phaseIn, jobOf}
+use Rattle.restore_bytes.specs.Jobs.{wordBytes, phaseByte, registerByte, phaseBytes, jobBytes, phaseIn, jobOf, stands, isJob}
 use Rattle.restore_bytes.proofs.Bytes.{bytes-length}
 use Rattle.restore_bytes.proofs.Held.{job-is}
 
@@ -96,13 +97,15 @@ module _ (j : Job) (present : length (j .present) ≡ 50) (wanted : length (j .w
       ap (λ (i : ℕ). getD (wordBytes (j .present) ++ wordBytes (j .wanted) ++ phaseBytes (j .phase)) i 0) e
       ∙ getD-append-add (wordBytes (j .present) ++ wordBytes (j .wanted)) (phaseBytes (j .phase)) 1 0
 
-  pub is-job-back : isJob (jobBytes j) ≡ true
-  unfolding isJob
-  is-job-back = simp (eq-eqb (length (jobBytes j)) 262 size, phase-there) (in-range (j .phase))
-
   pub job-back : Fitting (j .present) → Fitting (j .wanted) → jobOf (jobBytes j) ≡ j
   job-back f g =
       sym (job-is (jobBytes j)
       (sym (ap₂ words (sym present) grouped ∙ words-back (j .present) _ f))
       (sym (ap₂ words (sym wanted) second-part ∙ words-back (j .wanted) _ g))
       (sym (ap₂ phaseIn phase-there register-there ∙ phase-back (j .phase))))
+
+  -- and are taken for one, where a restore can come to it
+  pub is-job-back : Fitting (j .present) → Fitting (j .wanted) → stands j ≡ true → isJob (jobBytes j) ≡ true
+  unfolding isJob
+  is-job-back f g h =
+      simp (eq-eqb (length (jobBytes j)) 262 size, phase-there, in-range (j .phase)) (ap stands (job-back f g) ∙ h)

@@ -5,25 +5,30 @@ use numbers::bytes32;
 use records_pathfinder::word;
 use restore_jobs::Job;
 use restore_jobs::Phase;
+use restore_rules::First;
+use restore_rules::first_write;
 use signs::bits32;
 ghost use mathlib.Core.Path.{_≡_};
 ghost use Prim.Native.Nat.{_+_, _*_, _<_, _≤_};
 ghost use mathlib.Core.List.{[], _∷_, _++_};
 ghost use lib.ListN.{length, getD, take, drop};
 ghost use Rattle.records_pathfinder.specs.Words.{words};
-ghost use Rattle.restore_bytes.specs.Jobs.{wordsPut, phaseBytes, wordIn, phaseIn, isJob, jobOf, jobAfter};
+ghost use Rattle.restore_bytes.specs.Jobs.{wordsPut, phaseBytes, wordIn, phaseIn, stands, isJob, jobOf, jobAfter};
 
 // How many bytes a job has.
 const JOB: usize = 262;
 
-// Whether the bytes hold a job: so many of them, with one of the three phases.
+// Whether the bytes hold a job: so many of them, one of the three phases, and a job that a restore can come to.
 pub fn is_job(b: &[u8]) -> bool
     ensures { λ r. ⌜ r ≡ isJob (now (b .entry)) ⌝ }
 {
     if b.len() != JOB {
         return false;
     }
-    b[260] <= 2
+    if 2 < b[260] {
+        return false;
+    }
+    can_stand(job_of(b))
 }
 
 // The job in the bytes. Bytes past their end are taken for 0.
@@ -52,6 +57,22 @@ pub fn put_job(j: Job, b: &mut [u8])
     put_words(&j.wanted, 200, b);
     let phase = j.phase;
     put_phase(phase, b);
+}
+
+// Whether a restore can come to the job: a waiting one waits for the first of its writes.
+fn can_stand(j: Job) -> bool
+    ensures { λ r. ⌜ r ≡ stands j ⌝ }
+{
+    let phase = j.phase;
+    let Phase::Waiting(register) = phase else {
+        return true;
+    };
+    let present = j.present;
+    let wanted = j.wanted;
+    let First::At(first) = first_write(&present, &wanted) else {
+        return false;
+    };
+    register == first
 }
 
 // ---- reading

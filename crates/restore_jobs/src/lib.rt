@@ -1,5 +1,4 @@
-// A restore's job (01, Restore): its picture of the pack, what is wanted, and the phase; a job opened, how many settings are left, and what is
-// wanted of one.
+// A restore's job (01, Restore): its picture of the pack, what is wanted, and the phase; a job opened, and how many settings are left.
 // A job goes in by value and comes back by value. It is the job of the small machine of `restore_order`, about which demand 3 is proved.
 use refusals::Refusal;
 use restore_opening::Verdict;
@@ -7,7 +6,6 @@ use restore_opening::judge;
 use restore_rules::count_left;
 ghost use mathlib.Core.Path.{_≡_};
 ghost use lib.ListN.{length};
-ghost use Rattle.restore_order.specs.Slots.{at};
 ghost use Rattle.restore_order.specs.Opening.{unopened};
 ghost use Rattle.restore_jobs.specs.Jobs.{openedAs, openOf, leftOf};
 
@@ -64,13 +62,6 @@ pub fn left(job: Job) -> usize
     let present = job.present;
     let wanted = job.wanted;
     count_left(&present, &wanted)
-}
-
-// The wanted value of a setting, 0 where there is none.
-pub fn wanted_value(wanted: [i32; 15], n: u8) -> i32
-    ensures { λ r. ⌜ r ≡ at wanted n ⌝ }
-{
-    if n < 15 { wanted[n as usize] } else { 0 }
 }
 
 fn not_opened(why: Refusal) -> Opened

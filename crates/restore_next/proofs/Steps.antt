@@ -16,8 +16,9 @@ use Rattle.refusals.specs.declared.Written.{Written}
 use Rattle.refusals.specs.Refused.{refusedWith, room, turn}
 use Rattle.requests_pathfinder.specs.declared.Request.the-variants.{Write}
 use Rattle.requests_pathfinder.specs.Requests.{sentAs, roomAfter}
-use Rattle.restore_order.specs.Slots.{slots, at, writes}
+use Rattle.restore_order.specs.Slots.{slots, at, writes, isIn, apart}
 use Rattle.restore_order.specs.Machine as M
+use Rattle.restore_order.proofs.Ordering.{in-below, first-in}
 use Rattle.restore_rules.specs.declared.First.the-variants.{At, Nothing}
 use Rattle.restore_rules.specs.Rules.{firstOf}
 use Rattle.restore_jobs.specs.declared.Phase.{Phase}
@@ -28,6 +29,10 @@ use Rattle.restore_jobs.proofs.Phase.{the-type}
 use Rattle.restore_next.specs.declared.Step.the-variants.{Done, Refused as NoStep}
 use Rattle.restore_next.specs.declared.Stepped.{Stepped}
 use Rattle.restore_next.specs.Next.{sentOf, stepFor, nextOf, roomFor, roomOf}
+
+settings-apart : apart 15 slots ≡ true
+unfolding apart isIn
+settings-apart = refl
 
 module _ (j : Job) (out : List ℕ) where
   -- by what the machine asks
@@ -71,3 +76,11 @@ module _ (j : Job) (out : List ℕ) where
           → (sentOf j (record { present = j .present; wanted = j .wanted; phase = Waiting r }) written ≡ nextOf j (length out))
           × (roomAfter written (Write r (at (j .wanted) r)) out ≡ roomOf j out)
       one-write h written e = rw e (by-asked (M.write r (at (j .wanted) r)) (asks false (le-ltb (length out) 11 h)))
+
+-- what is written first is a setting
+pub first-below : (p w : List ℤ) (r : ℕ) → firstOf (writes slots p w) ≡ At r → r < 15
+first-below p w r = go (writes slots p w) refl
+  where
+    go : (ws : List ℕ) → writes slots p w ≡ ws → firstOf ws ≡ At r → r < 15
+    go [] e h = let z : _≡_ {A = ℕ} 0 1 = cc in absurd (omega arith)
+    go (n ∷ rest) e h = let q : n ≡ r = cc in rw (← q) (in-below 15 n slots settings-apart (first-in slots p w n rest e))

@@ -6,7 +6,6 @@ use refusals::refuse;
 use requests_pathfinder::write_set;
 use restore_jobs::Job;
 use restore_jobs::Phase;
-use restore_jobs::wanted_value;
 use restore_rules::First;
 use restore_rules::first_write;
 ghost use mathlib.Core.Path.{_≡_};
@@ -48,7 +47,7 @@ pub fn next(job: Job, out: &mut [u8]) -> Stepped
     if out.len() < 11 {
         return declined(job, refusals::ROOM);
     }
-    let value = wanted_value(wanted, register);
+    let value = wanted[register as usize];
     let written = write_set(register, value, out);
     let waits = Job {
         present,

@@ -6,9 +6,8 @@ use refusals::Refusal;
 use refusals::refuse;
 use restore_jobs::Job;
 use restore_jobs::Phase;
-use restore_jobs::wanted_value;
 ghost use mathlib.Core.Path.{_≡_};
-ghost use Rattle.restore_order.specs.Slots.{put};
+ghost use Rattle.restore_order.specs.Slots.{at, put};
 ghost use Rattle.restore_reply.specs.Reply.{decodedOf, answerOf, readAs, heardOf};
 
 pub enum Outcome {
@@ -95,6 +94,13 @@ fn marked(job: Job, register: u8) -> Job
         wanted,
         phase: Phase::Ready,
     }
+}
+
+// The wanted value of a setting, 0 where there is none.
+fn wanted_value(wanted: [i32; 15], n: u8) -> i32
+    ensures { λ r. ⌜ r ≡ at wanted n ⌝ }
+{
+    if n < 15 { wanted[n as usize] } else { 0 }
 }
 
 fn stopped(job: Job) -> Job

@@ -71,12 +71,12 @@ module _ (s : List ℕ) (i : ℕ) where
       short (suc n) [] = omega arith
       short (suc n) (x ∷ l) = omega (arith, short n l)
 
-  pub frame-has-span : frameAt s i ≡ true → (spanOf s i ≡ getD s (i + 1) 0 + 1) × (agrees s i (getD s (i + 1) 0 + 1) ≡ true)
+  pub frame-has-span : frameAt s i ≡ true → (spanOf s i ≡ getD s (i + 1) 0 + 1) × (agrees s i (getD s (i + 1) 0 + 1) ≡ true) × (getD s i 0 ≡ 0xFE)
   unfolding frameAt agrees
   frame-has-span h = go (frameOf (partAt s i)) refl h
     where
       go : (f : Frame) → frameOf (partAt s i) ≡ f → isWhole f ≡ true
-          → (spanOf s i ≡ getD s (i + 1) 0 + 1) × (agrees s i (getD s (i + 1) 0 + 1) ≡ true)
+          → (spanOf s i ≡ getD s (i + 1) 0 + 1) × (agrees s i (getD s (i + 1) 0 + 1) ≡ true) × (getD s i 0 ≡ 0xFE)
       go (Refused r) e t = let z : _≡_ {A = ℕ} 0 1 = cc in absurd (omega arith)
       go (Whole op st m) e t =
           let p = partAt s i in
@@ -95,9 +95,12 @@ module _ (s : List ℕ) (i : ℕ) where
           let sum : crcOf (take (n + 1) (drop (i + 1) s)) ≡ numberOf HighFirst (getD s (i + 1 + (n + 1)) 0 ∷ getD s (i + 2 + (n + 1)) 0 ∷ []) =
           ap (λ (j : ℕ). crcOf (take j (drop (i + 1) s))) k ∙ ap crcOf (sym (inner (m + 2) (omega arith))) ∙ parts .sum
           ∙ ap₂ (λ (a b : ℕ). numberOf HighFirst (a ∷ b ∷ [])) high low in
-          (sym (a-span s i (omega arith) mark n refl (λ z. omega arith) fits end), eq-eqb (crcOf (take (n + 1) (drop (i + 1) s))) _ sum)
+          (sym (a-span s i (omega arith) mark n refl (λ z. omega arith) fits end), eq-eqb (crcOf (take (n + 1) (drop (i + 1) s))) _ sum, mark)
 
-  -- ---- as the search has it: n is the span
+  -- ---- as the search has it: a place with no mark; n is the span of one that has it
+
+  pub no-mark-no-frame : (getD s i 0 ≡ 0xFE → ⊥) → frameAt s i ≡ false
+  no-mark-no-frame h = not-true (frameAt s i) (λ t. h (frame-has-span t .2))
 
   pub no-span : (n : ℕ) → n ≡ spanOf s i → n ≡ 0 → frameAt s i ≡ false
   no-span n e z = not-true (frameAt s i) (λ t. omega (arith, frame-has-span t .0))

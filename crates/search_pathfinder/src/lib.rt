@@ -13,13 +13,19 @@ pub enum Found {
     Nothing,
 }
 
-// Looks at each place for the bytes of a frame; the first that has them ends the search.
+// Looks at each place that has a mark for the bytes of a frame; the first that has them ends the search.
 pub fn find(s: &[u8]) -> Found
     ensures { λ r. ⌜ r ≡ searchOf (now (s .entry)) ⌝ }
 {
     let mut i = 0;
-    let mut total = 0;
-    'places: while i < s.len() {
+    'places: loop {
+        if s.len() <= i {
+            break 'places Found::Nothing;
+        }
+        if s[i] != 0xFE {
+            i += 1;
+            continue 'places;
+        }
         let n = span(s, i);
         let mut sum = 0;
         let mut k = 0;
@@ -28,17 +34,12 @@ pub fn find(s: &[u8]) -> Found
             k += 1;
             if k == n {
                 if sum == number16(Order::HighFirst, s[i + 1 + n], s[i + 2 + n]) {
-                    total = n + 4;
-                    break 'places;
+                    break 'places Found::At(i, n + 4);
                 }
             }
         }
-        i += 1;
+        i += 1; // no frame at this mark
     }
-    if total == 0 {
-        return Found::Nothing;
-    }
-    Found::At(i, total)
 }
 
 // How many bytes the checksum of a frame at i would cover, by marks and length; 0 where they are wrong.

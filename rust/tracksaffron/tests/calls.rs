@@ -203,6 +203,12 @@ fn restore_calls() {
 
     let mut job = Job::open(&present, &wanted).unwrap();
     assert_eq!(job.next(&mut out), Ok(Step::Frame(11)));
+    for other in [3, 0, 15, 50, 255] {
+        let mut lost = job.clone();
+        lost.0[261] = other;
+        assert_eq!((lost.next(&mut out), lost.left()), (Err(Refusal::Shape), Err(Refusal::Shape)));
+        assert_eq!(lost.reply(&written), Err(Refusal::Shape));
+    }
     assert_eq!(job.reply(&framed(0x24, &[])), Ok(Outcome::Failure(0x24)));
     assert_eq!(job.next(&mut out), Err(Refusal::Turn));
     job.0[260] = 3;

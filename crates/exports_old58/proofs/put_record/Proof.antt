@@ -119,11 +119,11 @@ returns-2 c =
     let energies = energy .before .before .before .energy-numbers .ensures ∙ ap energyNumbers (energy .before .before .before .before .energy-of .ensures) in
     let setups = setup .before .before .before .setup-numbers .ensures ∙ ap setupNumbers (setup .before .before .before .before .setup-of .ensures) in (
       c .coded .ensures ∙ told .0,
-      setup .put-i325 .ensures ∙ ap₂ (placed 26) setups (
-          energy .put-i324 .ensures ∙ ap₂ (placed 20) energies (
-          cell .put-i323 .ensures ∙ ap₂ (placed 15) cells (
-          extremes .put-i322 .ensures ∙ ap₂ (placed 7) extremal (
-          pack .put-i32 .ensures ∙ ap (λ (ns : List ℤ). placed 0 ns (a .row .now)) packs)))) ∙ told .1,
+      setup .put-i325 .ensures .1 ∙ ap₂ (placed 26) setups (
+          energy .put-i324 .ensures .1 ∙ ap₂ (placed 20) energies (
+          cell .put-i323 .ensures .1 ∙ ap₂ (placed 15) cells (
+          extremes .put-i322 .ensures .1 ∙ ap₂ (placed 7) extremal (
+          pack .put-i32 .ensures .1 ∙ ap (λ (ns : List ℤ). placed 0 ns (a .row .now)) packs)))) ∙ told .1,
     )
 
 pub put-record-spec : {M : Type 1} → statement M

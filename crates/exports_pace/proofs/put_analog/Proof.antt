@@ -51,9 +51,9 @@ returns-2 c =
     (omega (arith, c .before .before .before .before .before .before .before .before .before .before .before .before .before .before .if1 .left))
     (c .coded .ensures)
     (c .before .before .before .before .before .before .before .before .before .before .before .before .before .analog-numbers .ensures)
-    (c .before .before .before .before .before .before .before .before .before .before .put-i32 .ensures)
-    (c .before .before .before .before .before .before .put-u16 .ensures)
-    (c .before .before .put-i322 .ensures)
+    (c .before .before .before .before .before .before .before .before .before .before .put-i32 .ensures .1)
+    (c .before .before .before .before .before .before .put-u16 .ensures .1)
+    (c .before .before .put-i322 .ensures .1)
 
 pub put-analog-spec : {M : Type 1} → statement M
 put-analog-spec =

@@ -54,9 +54,9 @@ returns-2 c =
     (omega (arith, c .before .before .before .before .before .before .before .before .before .before .before .before .before .before .if1 .left))
     (c .coded .ensures)
     (c .before .before .before .before .before .before .before .before .before .before .before .before .before .warning-numbers .ensures)
-    (c .before .before .before .before .before .before .before .before .before .before .put-i32 .ensures)
-    (c .before .before .before .before .before .before .put-u8 .ensures)
-    (c .before .before .put-u82 .ensures)
+    (c .before .before .before .before .before .before .before .before .before .before .put-i32 .ensures .1)
+    (c .before .before .before .before .before .before .put-u8 .ensures .1)
+    (c .before .before .put-u82 .ensures .1)
 
 pub put-warnings-spec : {M : Type 1} → statement M
 put-warnings-spec =

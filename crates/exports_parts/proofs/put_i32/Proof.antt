@@ -6,7 +6,7 @@ use lib.IntN.{pos}
 use lib.ListN.{length}
 use mir.Syntax.{w32}
 use mir.ValLaws.{toZ-ofZ}
-use Rattle.exports_parts.proofs.Placing.{Standing, none-stands, one-more, all-stand, none-placed}
+use Rattle.exports_parts.proofs.Placing.{Standing, none-stands, one-more, all-stand, none-placed, they-fit, none-fits}
 use native.Mathlib.Omega.{arith}
 use borrow.Author.Needs.{needs}
 use Rattle.exports_parts.proofs.put_i32.Statement.{statement}
@@ -19,13 +19,13 @@ abbrev μ-loop : tie.MeasureT-loop
 μ-loop numbers at row₀ i₀ row i = length numbers - i
 
 returns : tie.Need-returns Inv-loop μ-loop
-returns c = let a = c .before .args in none-placed _ (a .at) (a .numbers .now) (a .row .now) refl (omega arith)
+returns c = let a = c .before .args in (none-fits _ _ _ (omega arith), none-placed _ (a .at) (a .numbers .now) (a .row .now) refl (omega arith))
 
 sub-if2 : tie.Need-sub-if2 Inv-loop μ-loop
 sub-if2 c = search needs
 
 returns-2 : tie.Need-returns-2 Inv-loop μ-loop
-returns-2 c = let a = c .before .before .args in none-placed _ (a .at) (a .numbers .now) (a .row .now) refl (omega arith)
+returns-2 c = let a = c .before .before .args in (none-fits _ _ _ (omega arith), none-placed _ (a .at) (a .numbers .now) (a .row .now) refl (omega arith))
 
 loop-holds : tie.Need-loop-holds Inv-loop μ-loop
 loop-holds c = let a = c .before .before .args in none-stands _ (a .at) (a .numbers .now) (a .row .now) refl (omega arith)
@@ -64,7 +64,7 @@ returns-3 : tie.Need-returns-3 Inv-loop μ-loop
 returns-3 c =
     let l = c .before .loop in
     let a = c .before .before .before .before .args in
-    all-stand _ (a .at) (a .numbers .now) (a .row .now) refl (l .row) (l .i) (l .inv) (omega arith)
+    (they-fit (a .at) (length (a .numbers .now)) (length (a .row .now)) (l .inv .3), all-stand _ (a .at) (a .numbers .now) (a .row .now) refl (l .row) (l .i) (l .inv) (omega arith))
 
 pub put-i32-spec : {M : Type 1} → statement M
 put-i32-spec =

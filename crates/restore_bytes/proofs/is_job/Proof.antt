@@ -1,7 +1,8 @@
--- `restore_bytes::is_job` meets its contract: by the two tests.
+-- `restore_bytes::is_job` meets its contract: by the three tests.
 -- Assumes nothing.
-use borrow.Author.Tests.{eq-eqb, ne-eqb}
-use Rattle.restore_bytes.specs.Jobs.{isJob}
+use mathlib.Core.Path.{ap, _∙_}
+use borrow.Author.Tests.{eq-eqb, ne-eqb, le-leb, lt-leb}
+use Rattle.restore_bytes.specs.Jobs.{stands, isJob}
 use borrow.Author.Needs.{needs}
 use Rattle.restore_bytes.proofs.is_job.Statement.{statement}
 use Rattle.restore_bytes.proofs.is_job.Tie as tie
@@ -10,12 +11,24 @@ returns : tie.Need-returns
 unfolding isJob
 returns c = simp (ne-eqb _ _ (c .if1 .taken))
 
-shared-slice-read-result : tie.Need-shared-slice-read-result
-shared-slice-read-result c = search needs
+shared-slice-read-if2 : tie.Need-shared-slice-read-if2
+shared-slice-read-if2 c = search needs
 
 returns-2 : tie.Need-returns-2
 unfolding isJob
-returns-2 c = simp (eq-eqb _ _ (c .before .if1 .left))
+returns-2 c = simp (eq-eqb _ _ (c .before .before .if1 .left), lt-leb _ _ (c .if2 .taken))
+
+job-of-requires : tie.Need-job-of-requires
+job-of-requires c κs = search needs
+
+can-stand-requires : tie.Need-can-stand-requires
+can-stand-requires c κs = search needs
+
+returns-3 : tie.Need-returns-3
+unfolding isJob
+returns-3 c = simp (eq-eqb _ _ (c .before .before .before .before .if1 .left), le-leb _ _ (c .before .before .if2 .left)) (c .can-stand .ensures ∙ ap stands (c .before .job-of .ensures))
 
 pub is-job-spec : {M : Type 1} → statement M
-is-job-spec = tie.close (tie.spec returns shared-slice-read-result returns-2)
+is-job-spec =
+    tie.close
+    (tie.spec returns shared-slice-read-if2 returns-2 job-of-requires can-stand-requires returns-3)

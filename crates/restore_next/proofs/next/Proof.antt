@@ -1,4 +1,5 @@
--- `next` meets its contract. Each way out is a law of `Steps`; the write's value is handed on by its bits, which read back.
+-- `next` meets its contract. Each way out is a law of `Steps`; what is written first is a setting, and its value is handed on by its bits, which
+-- read back.
 -- Assumes nothing.
 use mathlib.Core.Path.{_≡_, sym, ap, _∙_}
 use lib.IntN.{ℤ}
@@ -10,7 +11,7 @@ use Rattle.requests_pathfinder.specs.declared.Request.the-variants.{Write}
 use Rattle.requests_pathfinder.specs.Requests.{sentAs, roomAfter}
 use Rattle.restore_order.specs.Slots.{at}
 use Rattle.restore_rules.proofs.Numbers.{from-bits}
-use Rattle.restore_next.proofs.Steps.{out-of-turn, nothing-to-write, no-room, one-write}
+use Rattle.restore_next.proofs.Steps.{out-of-turn, nothing-to-write, no-room, one-write, first-below}
 use Rattle.restore_next.proofs.next.Statement.{statement}
 use Rattle.restore_next.proofs.next.Tie as tie
 
@@ -53,8 +54,18 @@ returns-3 c =
     rw (c .declined2 .ensures)
     (no-room (a .job) (a .out .now) (t .enum-told .given .1) (g .register .given .0 .0) (sym (f .first-write .ensures) ∙ g .register .given .1) (c .before .if1 .taken))
 
-wanted-value-requires : tie.Need-wanted-value-requires
-wanted-value-requires c κs = search needs
+cast-value : tie.Need-cast-value
+cast-value c = search needs
+
+mul-value : tie.Need-mul-value
+mul-value c = search needs
+
+array-copy-out-value : tie.Need-array-copy-out-value
+array-copy-out-value c =
+    let g = c .before .before in
+    let f = g .before .before in
+    let a = f .before .before .before .before .before .before .before .before .args in
+    first-below (a .job .present) (a .job .wanted) (g .register .given .0 .0) (sym (f .first-write .ensures) ∙ g .register .given .1)
 
 write-set-requires : tie.Need-write-set-requires
 write-set-requires c κs = search needs
@@ -74,7 +85,7 @@ returns-4 c =
     let t = f .before .before .before .before .before in
     let a = t .before .before .before .args in
     let r = g .register .given .0 .0 in
-    let e : toZ w32 (ofZ w32 (v .wanted-value .result)) ≡ at (a .job .wanted) r = from-bits (v .wanted-value .result) (v .wanted-value .ok) ∙ v .wanted-value .ensures in
+    let e : toZ w32 (ofZ w32 (at (a .job .wanted) r)) ≡ at (a .job .wanted) r = from-bits (at (a .job .wanted) r) (v .value .given) in
     let answer : x .write-set .result ≡ sentAs (Write r (at (a .job .wanted) r)) (length (a .out .now)) =
     x .write-set .ensures .0 ∙ ap (λ (z : ℤ). sentAs (Write r z) (length (a .out .now))) e in
     let room : x .write-set .last .1 .1 .0 ≡ roomAfter (x .write-set .result) (Write r (at (a .job .wanted) r)) (a .out .now) =
@@ -97,7 +108,9 @@ next-spec =
     returns-2
     declined-requires-2
     returns-3
-    wanted-value-requires
+    cast-value
+    mul-value
+    array-copy-out-value
     write-set-requires
     sent-requires
     same-length

@@ -1,9 +1,8 @@
 -- `search_pathfinder::find` meets its contract. The outer loop: no place passed has a frame. The inner one: the sum so far, and at the
--- span's end that it differs; the label is left where it agrees.
+-- span's end that it differs. The label is left at the end of the input with nothing, and where the sum agrees with place and length.
 -- Assumes nothing.
-use mathlib.Core.Path.{_≡_, refl, sym, ap, _∙_}
+use mathlib.Core.Path.{_≡_, sym, ap, _∙_}
 use mathlib.Core.Bool.{false}
-use mathlib.Core.Logic.{⊎-elim}
 use Prim.Native.Nat.{_+_, _-_, _≤_}
 use native.Mathlib.Omega.{arith}
 use lib.ListN.{length, take, drop}
@@ -12,31 +11,46 @@ use Rattle.checks.proofs.Pairs.{from-zero}
 use Rattle.search_pathfinder.specs.declared.Found.the-variants.{At}
 use Rattle.search_pathfinder.specs.Places.{agrees, scan, searchOf}
 use Rattle.search_pathfinder.proofs.Spans.{sum-more, sum-whole, sum-agrees, sum-differs, scan-end, scan-here, scan-on, scan-start}
-use Rattle.search_pathfinder.proofs.Frames.{passed, found}
+use Rattle.search_pathfinder.proofs.Frames.{no-mark-no-frame, passed, found}
 use borrow.Author.Needs.{needs}
 use Rattle.search_pathfinder.proofs.find.Statement.{statement}
 use Rattle.search_pathfinder.proofs.find.Tie as tie
 
 abbrev Inv-loop : tie.InvT-loop
-Inv-loop s i total₀ n sum₀ k₀ total sum k = (k ≤ n) × (total ≡ 0) × (crcFrom sum (drop k (take n (drop (i + 1) s))) ≡ crcOf (take n (drop (i + 1) s))) × (k ≡ n → (n ≡ 0 → ⊥) → agrees s i n ≡ false)
+Inv-loop s i n sum₀ k₀ sum k = (k ≤ n) × (crcFrom sum (drop k (take n (drop (i + 1) s))) ≡ crcOf (take n (drop (i + 1) s))) × (k ≡ n → (n ≡ 0 → ⊥) → agrees s i n ≡ false)
 
 abbrev μ-loop : tie.MeasureT-loop
-μ-loop s i total₀ n sum₀ k₀ total sum k = n - k
+μ-loop s i n sum₀ k₀ sum k = n - k
 
 abbrev Inv-places : tie.InvT-places
-Inv-places s i₀ total₀ i total = (i ≤ length s) × (total ≡ 0) × (searchOf s ≡ scan (length s - i) i s)
+Inv-places s i₀ i = searchOf s ≡ scan (length s - i) i s
 
 abbrev μ-places : tie.MeasureT-places
-μ-places s i₀ total₀ i total = length s - i
+μ-places s i₀ i = length s - i
 
 places-holds : tie.Need-places-holds Inv-loop μ-loop Inv-places μ-places
-places-holds c = (search needs, refl, scan-start _)
+places-holds c = scan-start _
+
+shared-slice-read-if2 : tie.Need-shared-slice-read-if2 Inv-loop μ-loop Inv-places μ-places
+shared-slice-read-if2 c = omega arith
+
+add-i : tie.Need-add-i Inv-loop μ-loop Inv-places μ-places
+add-i c = omega arith
+
+places-less : tie.Need-places-less Inv-loop μ-loop Inv-places μ-places
+places-less c = omega arith
+
+places-again : tie.Need-places-again Inv-loop μ-loop Inv-places μ-places
+places-again c =
+    let at = c .before .before .before in
+    let s = at .before .before .args .s .now in
+    at .places .inv ∙ scan-on s (at .places .i) (c .before .before .if1 .left) (no-mark-no-frame s (at .places .i) (c .if2 .taken))
 
 span-requires : tie.Need-span-requires Inv-loop μ-loop Inv-places μ-places
-span-requires c κs = search needs
+span-requires c κs = omega arith
 
 loop-holds : tie.Need-loop-holds Inv-loop μ-loop Inv-places μ-places
-loop-holds c = (search needs, c .before .before .places .inv .1, from-zero _, λ e z. absurd (z (sym e)))
+loop-holds c = (search needs, from-zero _, λ e z. absurd (z (sym e)))
 
 add-crc-step : tie.Need-add-crc-step Inv-loop μ-loop Inv-places μ-places
 add-crc-step c = omega arith
@@ -77,8 +91,8 @@ shared-slice-read-number16-2 c = omega arith
 number16-requires : tie.Need-number16-requires Inv-loop μ-loop Inv-places μ-places
 number16-requires c κs = search needs
 
-add-total : tie.Need-add-total Inv-loop μ-loop Inv-places μ-places
-add-total c = omega arith
+add-t27 : tie.Need-add-t27 Inv-loop μ-loop Inv-places μ-places
+add-t27 c = omega arith
 
 loop-less : tie.Need-loop-less Inv-loop μ-loop Inv-places μ-places
 loop-less c = omega arith
@@ -88,13 +102,12 @@ loop-again c =
     let stepped = c .before .before .before .before .before in
     let l = stepped .before .before .before .loop in
     let span = stepped .before .before .before .before .span in
-    let i = stepped .before .before .before .before .before .before .places .i in
+    let i = stepped .before .before .before .before .before .before .before .before .places .i in
     let more = stepped .before .before .loop-test .taken in
-    let s = stepped .before .before .before .before .before .before .before .before .args .s .now in (
+    let s = stepped .before .before .before .before .before .before .before .before .before .before .args .s .now in (
       omega arith,
-      l .inv .1,
-      sum-more s i (span .result) (span .ensures .1) (l .k) more (l .sum) _ (stepped .crc-step .ensures) (l .inv .2),
-      λ e z. sum-differs s i (span .result) _ _ (sum-whole s i (span .result) (span .ensures .1) (l .k) more (l .sum) _ (stepped .crc-step .ensures) (l .inv .2) e) (c .before .number16 .ensures) (c .if2 .left),
+      sum-more s i (span .result) (span .ensures .1) (l .k) more (l .sum) _ (stepped .crc-step .ensures) (l .inv .1),
+      λ e z. sum-differs s i (span .result) _ _ (sum-whole s i (span .result) (span .ensures .1) (l .k) more (l .sum) _ (stepped .crc-step .ensures) (l .inv .1) e) (c .before .number16 .ensures) (c .if4 .left),
     )
 
 loop-less-2 : tie.Need-loop-less-2 Inv-loop μ-loop Inv-places μ-places
@@ -105,55 +118,46 @@ loop-again-2 c =
     let stepped = c .before in
     let l = stepped .before .before .before .loop in
     let span = stepped .before .before .before .before .span in
-    let i = stepped .before .before .before .before .before .before .places .i in
+    let i = stepped .before .before .before .before .before .before .before .before .places .i in
     let more = stepped .before .before .loop-test .taken in
-    let s = stepped .before .before .before .before .before .before .before .before .args .s .now in (
+    let s = stepped .before .before .before .before .before .before .before .before .before .before .args .s .now in (
       omega arith,
-      l .inv .1,
-      sum-more s i (span .result) (span .ensures .1) (l .k) more (l .sum) _ (stepped .crc-step .ensures) (l .inv .2),
-      λ e z. absurd (c .if1 .left e),
+      sum-more s i (span .result) (span .ensures .1) (l .k) more (l .sum) _ (stepped .crc-step .ensures) (l .inv .1),
+      λ e z. absurd (c .if3 .left e),
     )
 
-add-i : tie.Need-add-i Inv-loop μ-loop Inv-places μ-places
-add-i c = omega arith
+add-i-2 : tie.Need-add-i-2 Inv-loop μ-loop Inv-places μ-places
+add-i-2 c = omega arith
 
-places-less : tie.Need-places-less Inv-loop μ-loop Inv-places μ-places
-places-less c = omega arith
+places-less-2 : tie.Need-places-less-2 Inv-loop μ-loop Inv-places μ-places
+places-less-2 c = omega arith
 
-places-again : tie.Need-places-again Inv-loop μ-loop Inv-places μ-places
-places-again c =
+places-again-2 : tie.Need-places-again-2 Inv-loop μ-loop Inv-places μ-places
+places-again-2 c =
     let l = c .before .loop in
     let span = c .before .before .span in
-    let at = c .before .before .before .before in
-    let k : l .k ≡ span .result = omega arith in (
-      omega arith,
-      l .inv .1,
-      at .places .inv .2 ∙ scan-on _ (at .places .i) (c .before .before .before .places-test .taken) (passed _ (at .places .i) (span .result) (span .ensures .0) (l .inv .3 k)),
-    )
+    let at = c .before .before .before .before .before .before in
+    let s = at .before .before .args .s .now in
+    let k : l .k ≡ span .result = omega arith in
+    at .places .inv ∙ scan-on s (at .places .i) (c .before .before .before .before .before .if1 .left) (passed s (at .places .i) (span .result) (span .ensures .0) (l .inv .2 k))
 
 returns : tie.Need-returns Inv-loop μ-loop Inv-places μ-places
 returns c =
-    let at = c .before .before in
-    ⊎-elim
-    (λ w. sym (at .places .inv .2 ∙ scan-end (at .before .before .args .s .now) (at .places .i) (w .0 .left)))
-    (λ w. absurd (omega (arith, w .11, c .if3 .taken)))
-    (c .before .places-test .came)
+    let at = c .before in
+    sym (at .places .inv ∙ scan-end (at .before .before .args .s .now) (at .places .i) (c .if1 .taken))
 
 returns-2 : tie.Need-returns-2 Inv-loop μ-loop Inv-places μ-places
 returns-2 c =
-    let at = c .before .before in
-    let s = at .before .before .args .s .now in
-    let i = at .places .i in
-    ⊎-elim
-    (λ w. absurd (c .if3 .left (w .1 ∙ at .places .inv .1)))
-    (λ w.
-    let l = w .2 in
-    let n = w .1 in
-    let sums = sum-whole s i (n .result) (n .ensures .1) (l .k) (w .3 .taken) (l .sum) _ (w .5 .ensures) (l .inv .2) (w .6 .taken) in
-    let some : n .result ≡ 0 → ⊥ = λ z. omega (arith, w .3 .taken) in
-    let f = found s i (n .result) (n .ensures .0) some (sum-agrees s i (n .result) _ _ sums (w .9 .ensures) (w .10 .taken)) in
-    ap (At i) (w .11 ∙ f .1) ∙ sym (at .places .inv .2 ∙ scan-here s i (w .0 .taken) (f .0)))
-    (c .before .places-test .came)
+    let stepped = c .before .before .before .before .before in
+    let l = stepped .before .before .before .loop in
+    let span = stepped .before .before .before .before .span in
+    let i = stepped .before .before .before .before .before .before .before .before .places .i in
+    let more = stepped .before .before .loop-test .taken in
+    let s = stepped .before .before .before .before .before .before .before .before .before .before .args .s .now in
+    let sums = sum-whole s i (span .result) (span .ensures .1) (l .k) more (l .sum) _ (stepped .crc-step .ensures) (l .inv .1) (c .before .before .before .before .if3 .taken) in
+    let some : span .result ≡ 0 → ⊥ = λ z. omega (arith, more) in
+    let f = found s i (span .result) (span .ensures .0) some (sum-agrees s i (span .result) _ _ sums (c .before .number16 .ensures) (c .if4 .taken)) in
+    ap (At i) (f .1) ∙ sym (stepped .before .before .before .before .before .before .before .before .places .inv ∙ scan-here s i (stepped .before .before .before .before .before .before .before .if1 .left) (f .0))
 
 pub find-spec : {M : Type 1} → statement M
 find-spec =
@@ -164,6 +168,10 @@ find-spec =
     Inv-places
     μ-places
     places-holds
+    shared-slice-read-if2
+    add-i
+    places-less
+    places-again
     span-requires
     loop-holds
     add-crc-step
@@ -178,13 +186,13 @@ find-spec =
     add-number16-4
     shared-slice-read-number16-2
     number16-requires
-    add-total
+    add-t27
     loop-less
     loop-again
     loop-less-2
     loop-again-2
-    add-i
-    places-less
-    places-again
+    add-i-2
+    places-less-2
+    places-again-2
     returns
     returns-2)

@@ -5,8 +5,8 @@ use native.Mathlib.Omega.{arith}
 use lib.ListN.{length, List·getD-eq-default}
 use lib.IntN.{pos}
 use borrow.Author.Needs.{needs}
-use Rattle.restore_jobs.proofs.wanted_value.Statement.{statement}
-use Rattle.restore_jobs.proofs.wanted_value.Tie as tie
+use Rattle.restore_reply.proofs.wanted_value.Statement.{statement}
+use Rattle.restore_reply.proofs.wanted_value.Tie as tie
 
 mul-result : tie.Need-mul-result
 mul-result c = search needs
