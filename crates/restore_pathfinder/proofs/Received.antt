@@ -9,7 +9,7 @@ use Rattle.frames_pathfinder.specs.declared.Frame.{Frame}
 use Rattle.frames_pathfinder.specs.Reading.{frameOf}
 use Rattle.frames_written_pathfinder.specs.Writing.{frameBytes}
 use Rattle.frames_written_pathfinder.proofs.ReadBack.{frame-reads-back}
-use Rattle.opcodes_pathfinder.specs.Opcodes.{isFailure, kindOf, shapeOf}
+use Rattle.opcodes_pathfinder.specs.Opcodes.{isFailure, isListed, kindOf, shapeOf}
 use Rattle.records_pathfinder.specs.Replies.{judged, ofFrame, replyOf}
 use Rattle.restore_order.specs.Machine as M
 use Rattle.restore_reply.specs.Reply.{decodedOf, readAs}
@@ -26,10 +26,14 @@ unfolding replyOf
 by-opcode op = ap (λ (f : Frame). decodedOf (ofFrame 0x0E 0 0 f)) (sym (frame-reads-back op []))
 
 pub success-is-read : readAs successFrame ≡ M.success
-unfolding judged kindOf shapeOf
+unfolding judged kindOf isFailure isListed shapeOf
 success-is-read = ap readAs success-is-its-frame ∙ by-opcode 0x0E
+
+asked-is-listed : isListed 0x0E ≡ true
+unfolding isListed
+asked-is-listed = refl
 
 -- 20 to 24, 26, 27 and 2D
 pub failure-is-read : (code : ℕ) → isFailure code ≡ true → readAs (frameBytes code []) ≡ M.failure code
 unfolding judged kindOf shapeOf
-failure-is-read code e = by-opcode code ∙ rw e
+failure-is-read code e = by-opcode code ∙ rw (e, asked-is-listed)

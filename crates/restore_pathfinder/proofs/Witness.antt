@@ -17,7 +17,7 @@ use Rattle.frames_pathfinder.specs.Reading.{frameOf}
 use Rattle.frames_written_pathfinder.specs.Writing.{frameBytes}
 use Rattle.types_pathfinder.specs.Types as types
 use Rattle.registers_pathfinder.specs.Registers.{typeLows, typeHighs, lows, highs, fitsType, inRange}
-use Rattle.opcodes_pathfinder.specs.Opcodes.{isFailure, kindOf, shapeOf}
+use Rattle.opcodes_pathfinder.specs.Opcodes.{isFailure, isListed, kindOf, shapeOf}
 use Rattle.records_pathfinder.specs.Replies.{judged, replyOf}
 use Rattle.requests_pathfinder.specs.declared.Request.the-variants.{Ask, Write}
 use Rattle.requests_read_pathfinder.specs.declared.Parsed.{Parsed}
@@ -351,7 +351,7 @@ pub p11-whole : WholeRun plain present wanted
 p11-whole = some-run plain plain-obeys present wanted p11-accepted
 
 pub p11-fails : StoppedRun plain present wanted
-unfolding writes
+unfolding writes isFailure
 p11-fails = some-failure plain plain-obeys present wanted p11-accepted 3 (4 ∷ []) refl 0x24 refl
 
 -- its first frame, 70 to register 3; and the same with one bit turned over, which is no request: so the pack answers 24 and changes nothing
@@ -380,7 +380,7 @@ story =
     ∷ []
 
 pub p11-cut : Supposed plain present present wanted story
-unfolding story plain after writes requestOf parsedOf parsedSet frameOf frameBytes sentAs writtenAs faultOf replyOf judged kindOf shapeOf crcOf crcFrom shifts shift inRange fitsType lows highs typeLows typeHighs types.settings O.opening every sides
+unfolding story plain after writes requestOf parsedOf parsedSet frameOf frameBytes sentAs writtenAs faultOf replyOf judged kindOf isFailure isListed shapeOf crcOf crcFrom shifts shift inRange fitsType lows highs typeLows typeHighs types.settings O.opening every sides
 p11-cut =
     record {
       write-rule = plain-obeys;
