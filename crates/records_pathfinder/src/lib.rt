@@ -2,21 +2,19 @@
 // device's own failure.
 use frames_pathfinder::Frame;
 use frames_pathfinder::read_frame;
-use numbers::Order;
-use numbers::number32;
 use opcodes_pathfinder::Kind;
 use opcodes_pathfinder::Shape;
 use opcodes_pathfinder::kind_of;
 use opcodes_pathfinder::shape_of;
 use refusals::Refusal;
 use refusals::refuse;
-use signs::signed32;
+use words_pathfinder::read_words;
 ghost use mathlib.Core.Path.{_≡_};
 ghost use mathlib.Core.List.{_++_};
 ghost use Prim.Native.Nat.{_*_, _≤_};
 ghost use lib.ListN.{length, drop};
 ghost use Rattle.refusals.specs.Refused.{refusedWith};
-ghost use Rattle.records_pathfinder.specs.Words.{wordOf, words};
+ghost use Rattle.words_pathfinder.specs.Words.{words};
 ghost use Rattle.records_pathfinder.specs.Replies.{wordsJudged, shaped, judged, replyOf, rowAfter, nameAfter};
 
 // What a reply says.
@@ -117,24 +115,12 @@ fn judge_words(n: usize, len: usize, room: usize) -> Reply
     Reply::Words(n)
 }
 
-// The first n words of the data go to the front of the row.
+// The words of the data go to the front of the row.
 fn fill(s: &[u8], row: &mut [i32], n: usize)
-    requires { ⌜ (n ≤ length (now row)) × (4 * n ≤ length (now s)) ⌝ }
+    requires { ⌜ (n ≤ length (now row)) × (length (now s) ≡ 4 * n) ⌝ }
     ensures { λ _. ⌜ now (row .exit) ≡ words n (now (s .entry)) ++ drop n (now (row .entry)) ⌝ }
 {
-    let mut i = 0;
-    while i < n {
-        let at = 4 * i;
-        row[i] = word(s[at], s[at + 1], s[at + 2], s[at + 3]);
-        i += 1;
-    }
-}
-
-// The signed number of four bytes, the low one first.
-pub fn word(a: u8, b: u8, c: u8, d: u8) -> i32
-    ensures { λ r. ⌜ r ≡ wordOf a b c d ⌝ }
-{
-    signed32(number32(Order::LowFirst, a, b, c, d))
+    read_words(s, &mut row[0..n]);
 }
 
 fn refused(number: u8) -> Reply

@@ -12,7 +12,7 @@ use lib.ListN.{length, getD}
 use Rattle.refusals.specs.declared.Refusal.{Refusal}
 use Rattle.refusals.specs.Refused.{refusedWith, request, shape, range, register}
 use Rattle.registers_pathfinder.specs.Registers.{count, inRange}
-use Rattle.records_pathfinder.specs.Words.{wordOf}
+use Rattle.words_pathfinder.specs.Words.{wordOf}
 use Rattle.records_pathfinder.specs.Replies.{payloadOf}
 use Rattle.frames_pathfinder.specs.declared.Frame.the-variants.{Whole, Refused as NoFrame}
 use Rattle.frames_pathfinder.specs.Reading.{frameOf}

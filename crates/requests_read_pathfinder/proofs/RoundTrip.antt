@@ -16,11 +16,7 @@ use Rattle.laws.proofs.Fronts.{front}
 use Rattle.laws.proofs.Ladders.{into, both}
 use Rattle.refusals.specs.declared.Refusal.{Refusal}
 use Rattle.refusals.specs.Refused.{refusedWith, shape, request, range, register}
-use Rattle.numbers.specs.declared.Order.the-variants.{LowFirst}
-use Rattle.numbers.specs.Bytes.{numberOf, bytesOf}
-use Rattle.signs.specs.Signed.{signedOf, bitsOf}
-use Rattle.numbers.proofs.Orders.{Bytes, written-reads-back, read-writes-back}
-use Rattle.signs.proofs.Signs.{bits-read-back, signed-written-back}
+use Rattle.words_pathfinder.proofs.RoundTrip.{word-back, bytes-back}
 use Rattle.frames_pathfinder.specs.declared.Frame.{Frame}
 use Rattle.frames_pathfinder.specs.declared.Frame.the-variants.{Whole, Refused as NoFrame}
 use Rattle.frames_pathfinder.specs.Reading.{frameOf}
@@ -29,7 +25,7 @@ use Rattle.frames_written_pathfinder.specs.Writing.{frameBytes}
 use Rattle.frames_written_pathfinder.proofs.ReadBack.{frame-reads-back, frame-writes-back, payload-back}
 use Rattle.frames_written_pathfinder.proofs.Writers.{frame-length}
 use Rattle.registers_pathfinder.specs.Registers.{count, inRange}
-use Rattle.records_pathfinder.specs.Words.{wordOf}
+use Rattle.words_pathfinder.specs.Words.{wordOf}
 use Rattle.records_pathfinder.specs.Replies.{payloadOf}
 use Rattle.requests_pathfinder.specs.declared.Request.{Request}
 use Rattle.requests_pathfinder.specs.declared.Request.the-variants.{Ask, Write}
@@ -44,14 +40,6 @@ Typed (Ask op) = Unit
 Typed (Write r v) = mag v < 2 ^ 31
 
 -- ---- a written request is read back
-
-bits-lt : (v : ℤ) → mag v < 2 ^ 31 → bitsOf 32 v < 256 ^ 4
-bits-lt (lib.IntN.pos n) h = omega arith
-bits-lt (lib.IntN.negsuc n) h = omega arith
-
--- the four bytes of a value are that value
-pub value-reads-back : (v : ℤ) → mag v < 2 ^ 31 → signedOf 31 (numberOf LowFirst (bytesOf LowFirst 4 (bitsOf 32 v))) ≡ v
-value-reads-back v h = ap (signedOf 31) (written-reads-back LowFirst 4 (bitsOf 32 v) (bits-lt v h)) ∙ bits-read-back 31 v h
 
 right : (a : Bool) (n m : ℕ) → (m ≡ 0 → ⊥) → pick a n m ≡ 0 → (a ≡ true) × (n ≡ 0)
 right true n m h e = (refl, e)
@@ -72,7 +60,7 @@ parsed-back (Ask op) t e =
 parsed-back (Write r v) t e =
     let a = right (ltb r count) (pick (inRange r v) 0 range) register (λ h. omega arith) e in
     let b = right (inRange r v) 0 range (λ h. omega arith) (a .1) in
-    sym (set-read (setLoad r v) refl (a .0) v (sym (value-reads-back v t)) (b .0) ∙ parsed-set 14 (setLoad r v) refl)
+    sym (set-read (setLoad r v) refl (a .0) v (sym (word-back v t)) (b .0) ∙ parsed-set 14 (setLoad r v) refl)
 
 payload-of : (op : ℕ) (load : List ℕ) → payloadOf (frameBytes op load) ≡ load
 payload-of op load =
@@ -105,12 +93,6 @@ five load e = sym (lib.Seq.take-all 5 load (omega arith)) ∙ front load 5 (omeg
 abbrev pub AllBytes : List ℕ → Type 0
 AllBytes s = (i : ℕ) → getD s i 0 < 256
 
-value-writes-back : (a b c d : ℕ) → a < 256 → b < 256 → c < 256 → d < 256 → bytesOf LowFirst 4 (bitsOf 32 (wordOf a b c d)) ≡ a ∷ b ∷ c ∷ d ∷ []
-unfolding Bytes
-value-writes-back a b c d ha hb hc hd =
-    ap (bytesOf LowFirst 4) (signed-written-back 31 (numberOf LowFirst (a ∷ b ∷ c ∷ d ∷ [])) (omega arith))
-    ∙ read-writes-back LowFirst (a ∷ b ∷ c ∷ d ∷ []) (ha, (hb, (hc, (hd, tt))))
-
 set-was : (load : List ℕ) (q : Request) → AllBytes load → Is q ≡ parsedSet load → Read 14 load q
 unfolding parsedSet faultOf
 set-was load q byte h =
@@ -121,7 +103,7 @@ set-was load q byte h =
     let b = into (ltb r count) _ _ _ (no _) (a .1) in
     let d = into (inRange r v) _ _ _ (no _) (b .1) in
     let e : q ≡ Write r v = cc (d .1) in
-    let back = value-writes-back (getD load 1 0) (getD load 2 0) (getD load 3 0) (getD load 4 0) (byte 1) (byte 2) (byte 3) (byte 4) in
+    let back = bytes-back (getD load 1 0) (getD load 2 0) (getD load 3 0) (getD load 4 0) (byte 1) (byte 2) (byte 3) (byte 4) in
     record {
       opcode = rw e;
       data-are = rw e (five load (eqb-true (length load) 5 (a .0)) ∙ ap (λ (l : List ℕ). r ∷ l) (sym back));

@@ -10,7 +10,7 @@ use Rattle.frames_pathfinder.specs.declared.Frame.{Frame}
 use Rattle.frames_pathfinder.specs.declared.Frame.the-variants.{Whole, Refused as NoFrame}
 use Rattle.frames_pathfinder.specs.Reading.{frameOf}
 use Rattle.registers_pathfinder.specs.Registers.{count, inRange}
-use Rattle.records_pathfinder.specs.Words.{wordOf}
+use Rattle.words_pathfinder.specs.Words.{wordOf}
 use Rattle.records_pathfinder.specs.Replies.{payloadOf}
 use Rattle.requests_pathfinder.specs.declared.Request.the-variants.{Ask, Write}
 use Rattle.requests_pathfinder.specs.Requests.{asks}

@@ -2,12 +2,12 @@
 // and data ask for. `requests_pathfinder` writes them.
 use frames_pathfinder::Frame;
 use frames_pathfinder::read_frame;
-use records_pathfinder::word;
 use refusals::Refusal;
 use refusals::refuse;
 use registers_pathfinder::in_range;
 use registers_pathfinder::is_register;
 use requests_pathfinder::Request;
+use words_pathfinder::word;
 ghost use mathlib.Core.Path.{_≡_};
 ghost use Rattle.refusals.specs.Refused.{refusedWith};
 ghost use Rattle.requests_read_pathfinder.specs.Reading.{parsedSet, parsedOf, requestOf};

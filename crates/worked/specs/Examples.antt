@@ -25,7 +25,7 @@ use Rattle.analog_pace.specs.Analog.{tenthsOf}
 use Rattle.parts_old58.specs.declared.Current.{Current}
 use Rattle.parts_old58.specs.declared.Current.the-variants.{Milliamps, Missing}
 use Rattle.parts_old58.specs.Parts.{currentAt}
-use Rattle.records_pathfinder.specs.Words as words
+use Rattle.words_pathfinder.specs.Words as words
 use Rattle.restore_order.specs.Slots.{eqZ, slots, writes}
 
 -- ---- tests of what a definition gives

@@ -1,0 +1,22 @@
+-- What a caller finds who lent a part: the front of a row, filled with words; the whole of a row; and the bytes of words in a part of as many.
+-- Assumes nothing.
+use mathlib.Core.Path.{_≡_, ap, _∙_}
+use mathlib.Core.List.{List, _++_}
+use Prim.Native.Nat.{ℕ, _-_, _*_, _≤_}
+use native.Mathlib.Omega.{arith}
+use borrow.Author.Tests.{eq-eqb}
+use borrow.Rule.Slice.PartMut.{putMid}
+use lib.IntN.{ℤ}
+use lib.ListN.{length, take, drop}
+use Rattle.laws.proofs.Filling.{front-length}
+use Rattle.laws.proofs.Firsts.{firsts-front}
+use Rattle.words_pathfinder.specs.Words.{wordAt, words, rowRead}
+
+pub row-read : (s : List ℕ) (row : List ℤ) → length s ≡ 4 * length row → rowRead s row ≡ words (length row) s
+row-read s row e = rw (eq-eqb (length s) (4 * length row) e)
+
+pub front-read : (s : List ℕ) (n : ℕ) (row part : List ℤ) → n ≤ length row → length s ≡ 4 * n → part ≡ rowRead s (take (n - 0) row)
+    → putMid 0 (n - 0) row part ≡ words n s ++ drop n row
+front-read s n row part h size e =
+    let k : length (take (n - 0) row) ≡ n = front-length n row h in
+    firsts-front (wordAt s) n row part h (e ∙ row-read s (take (n - 0) row) (size ∙ ap (λ (m : ℕ). 4 * m) (let z : n ≡ length (take (n - 0) row) = omega arith in z)))
