@@ -1,19 +1,15 @@
 // A restore's job in 262 bytes, for who keeps it where no struct can stand (docs/DECISIONS.md, C and Rust): judged, read and written.
 // `specs/Jobs.antt` says how a job stands in its bytes.
-use numbers::Order;
-use numbers::bytes32;
-use records_pathfinder::word;
 use restore_jobs::Job;
 use restore_jobs::Phase;
 use restore_rules::First;
 use restore_rules::first_write;
-use signs::bits32;
+use words_pathfinder::put_words;
+use words_pathfinder::read_words;
 ghost use mathlib.Core.Path.{_≡_};
-ghost use Prim.Native.Nat.{_+_, _*_, _<_, _≤_};
-ghost use mathlib.Core.List.{[], _∷_, _++_};
-ghost use lib.ListN.{length, getD, take, drop};
-ghost use Rattle.records_pathfinder.specs.Words.{words};
-ghost use Rattle.restore_bytes.specs.Jobs.{wordsPut, phaseBytes, wordIn, phaseIn, stands, isJob, jobOf, jobAfter};
+ghost use mathlib.Core.List.{_++_};
+ghost use lib.ListN.{length, take};
+ghost use Rattle.restore_bytes.specs.Jobs.{phaseBytes, phaseIn, stands, isJob, jobOf, sizeFault, jobAfter};
 
 // How many bytes a job has.
 const JOB: usize = 262;
@@ -31,32 +27,41 @@ pub fn is_job(b: &[u8]) -> bool
     can_stand(job_of(b))
 }
 
-// The job in the bytes. Bytes past their end are taken for 0.
+// The job in the bytes; where they are not so many, a job that is stopped and wants nothing.
 pub fn job_of(b: &[u8]) -> Job
     ensures { λ r. ⌜ r ≡ jobOf (now (b .entry)) ⌝ }
 {
     let mut present = [0i32; 50];
     let mut wanted = [0i32; 15];
-    read_words(b, 0, &mut present);
-    read_words(b, 200, &mut wanted);
+    if b.len() != JOB {
+        return Job {
+            present,
+            wanted,
+            phase: Phase::Stopped,
+        };
+    }
+    read_words(&b[0..200], &mut present);
+    read_words(&b[200..260], &mut wanted);
     Job {
         present,
         wanted,
-        phase: phase_of(byte_at(b, 260), byte_at(b, 261)),
+        phase: phase_of(b[260], b[261]),
     }
 }
 
-// Puts a job into its bytes; where they are not so many, they keep their contents.
-pub fn put_job(j: Job, b: &mut [u8])
-    ensures { λ _. ⌜ now (b .exit) ≡ jobAfter j (now (b .entry)) ⌝ }
+// Puts a job into its bytes. Answers 0, or 8 where they are not so many; they then keep their contents.
+pub fn put_job(j: Job, b: &mut [u8]) -> u8
+    ensures answer { λ r. ⌜ r ≡ sizeFault (now (b .entry)) ⌝ }
+    ensures held { λ r. ⌜ now (b .exit) ≡ jobAfter j (now (b .entry)) ⌝ }
 {
     if b.len() != JOB {
-        return;
+        return refusals::SHAPE;
     }
-    put_words(&j.present, 0, b);
-    put_words(&j.wanted, 200, b);
+    put_words(&j.present, &mut b[0..200]);
+    put_words(&j.wanted, &mut b[200..260]);
     let phase = j.phase;
     put_phase(phase, b);
+    0
 }
 
 // Whether a restore can come to the job: a waiting one waits for the first of its writes.
@@ -75,38 +80,6 @@ fn can_stand(j: Job) -> bool
     register == first
 }
 
-// ---- reading
-
-// The row full of the words from a place on.
-fn read_words(b: &[u8], from: usize, row: &mut [i32])
-    requires { ⌜ from + 4 * length (now row) ≤ 260 ⌝ }
-    ensures { λ _. ⌜ now (row .exit) ≡ words (length (now (row .entry))) (drop from (now (b .entry))) ⌝ }
-{
-    let mut i = 0;
-    while i < row.len() {
-        row[i] = word_at(b, from + 4 * i);
-        i += 1;
-    }
-}
-
-fn word_at(b: &[u8], at: usize) -> i32
-    requires { ⌜ at < 260 ⌝ }
-    ensures { λ r. ⌜ r ≡ wordIn (now (b .entry)) at ⌝ }
-{
-    word(
-        byte_at(b, at),
-        byte_at(b, at + 1),
-        byte_at(b, at + 2),
-        byte_at(b, at + 3),
-    )
-}
-
-fn byte_at(b: &[u8], i: usize) -> u8
-    ensures { λ r. ⌜ r ≡ getD (now (b .entry)) i 0 ⌝ }
-{
-    if i < b.len() { b[i] } else { 0 }
-}
-
 fn phase_of(p: u8, register: u8) -> Phase
     ensures { λ r. ⌜ r ≡ phaseIn p register ⌝ }
 {
@@ -117,28 +90,6 @@ fn phase_of(p: u8, register: u8) -> Phase
         return Phase::Waiting(register);
     }
     Phase::Stopped
-}
-
-// ---- writing
-
-// Four bytes for each number, from a place on.
-fn put_words(numbers: &[i32], from: usize, b: &mut [u8])
-    requires { ⌜ from + 4 * length (now numbers) ≤ length (now b) ⌝ }
-    ensures { λ _. ⌜ now (b .exit) ≡ wordsPut from (now (numbers .entry)) (now (b .entry)) ⌝ }
-{
-    let mut i = 0;
-    while i < numbers.len() {
-        put_word(numbers[i], from + 4 * i, b);
-        i += 1;
-    }
-}
-
-fn put_word(v: i32, at: usize, b: &mut [u8])
-    requires { ⌜ at + 4 ≤ length (now b) ⌝ }
-    ensures { λ _. ⌜ now (b .exit) ≡ wordsPut at (v ∷ []) (now (b .entry)) ⌝ }
-{
-    let bytes = bytes32(Order::LowFirst, bits32(v));
-    bytes::copy(&bytes, &mut b[at..at + 4]);
 }
 
 fn put_phase(phase: Phase, b: &mut [u8])

@@ -40,7 +40,7 @@ returns : tie.Need-returns
 returns c =
     let a = c .before .before .before .before .before .before .before .before .before .before .before .args in
     let e = sym (c .before .before .before .before .before .before .before .before .answer .given .1) in
-    (c .coded .ensures ∙ ap outcomeCode (sym (c .before .enum-told .given .1)) ∙ ap answerCode e, c .before .before .before .before .before .put-job .ensures ∙ ap (λ x. answerJob x (a .h .job) (a .job .now)) e)
+    (c .coded .ensures ∙ ap outcomeCode (sym (c .before .enum-told .given .1)) ∙ ap answerCode e, c .before .before .before .before .before .put-job .ensures .1 ∙ ap (λ x. answerJob x (a .h .job) (a .job .now)) e)
 
 same-length-2 : tie.Need-same-length-2
 same-length-2 c = search needs
@@ -49,7 +49,7 @@ returns-2 : tie.Need-returns-2
 returns-2 c =
     let a = c .before .before .before .before .before .before .before .before .before .before .before .before .args in
     let e = sym (c .before .before .before .before .before .before .before .before .before .answer .given .1) in
-    (c .coded2 .ensures ∙ ap outcomeCode (sym (c .before .before .outcome .given .1)) ∙ ap answerCode e, c .before .before .before .before .before .before .put-job .ensures ∙ ap (λ x. answerJob x (a .h .job) (a .job .now)) e)
+    (c .coded2 .ensures ∙ ap outcomeCode (sym (c .before .before .outcome .given .1)) ∙ ap answerCode e, c .before .before .before .before .before .before .put-job .ensures .1 ∙ ap (λ x. answerJob x (a .h .job) (a .job .now)) e)
 
 returns-3 : tie.Need-returns-3
 returns-3 c = search needs
