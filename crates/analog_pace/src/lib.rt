@@ -1,5 +1,5 @@
 // The reply to 42, analog information (004, Get Analog Information; 01, PACE).
-// INFO comes as characters; what is said of it is said of the bytes that they carry.
+// INFO comes as characters; where they are no bytes that is refused first, and the rest is said of the bytes that they carry.
 use characters_pace::byte_of;
 use characters_pace::word_of;
 use counts_pace::Counts;

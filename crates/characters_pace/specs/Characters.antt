@@ -15,7 +15,7 @@ use Rattle.digits.specs.Hexes.{digitOf, byteOf, charOf}
 use Rattle.numbers.specs.declared.Order.the-variants.{HighFirst}
 use Rattle.numbers.specs.Bytes.{numberOf}
 
--- what a reading holds; 0 where there is none (no character of a whole frame is read so)
+-- what a reading holds; 0 where there is none (no character of a whole frame is read so, and none of INFO)
 abbrev pub valueIn : Hex → ℕ
 valueIn (Value v) = v
 valueIn Other = 0

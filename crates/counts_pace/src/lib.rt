@@ -1,5 +1,6 @@
 // The shape that the replies 42 and 44 share (01, PACE): 00, the address, the number of cells and a value for each, the number of
-// temperatures and a value for each, and the rest. INFO comes as characters; what is said of it is said of the bytes that they carry.
+// temperatures and a value for each, and the rest. INFO comes as characters; where they are no bytes that is refused first, and the
+// rest is said of the bytes that they carry.
 use characters_pace::byte_of;
 use characters_pace::fault_of;
 use refusals::Refusal;

@@ -63,7 +63,7 @@ pub fn read_reply(address: u8, asked: u8, s: &[u8]) -> Reply
             len,
         } => {
             if from != address {
-                return refuses(refusals::ADDRESS);
+                return refused(refusals::ADDRESS);
             }
             answered(address, command_of(asked), code, &s[start..start + len])
         }
@@ -78,13 +78,13 @@ fn answered(address: u8, command: Command, code: u8, info: &[u8]) -> Reply
     let listed = is_listed(command);
     let even = info.len() % 2 == 0;
     if !listed {
-        return refuses(refusals::REQUEST);
+        return refused(refusals::REQUEST);
     }
     if code != 0 {
         return plain(Answer::DeviceFailure(code));
     }
     if !even {
-        return refuses(refusals::SHAPE);
+        return refused(refusals::SHAPE);
     }
     payload(address, command, info)
 }
@@ -101,7 +101,7 @@ fn payload(address: u8, command: Command, info: &[u8]) -> Reply
         Command::Serial => serial(info),
         Command::Reads(setting) => with_setting(read_setting(setting, info)),
         Command::Writes(_) => accepted(info),
-        Command::Unlisted => refuses(refusals::REQUEST),
+        Command::Unlisted => refused(refusals::REQUEST),
     }
 }
 
@@ -120,7 +120,7 @@ fn plain(answer: Answer) -> Reply
 }
 
 // A refusal with its number.
-fn refuses(number: u8) -> Reply
+fn refused(number: u8) -> Reply
     ensures { λ r. ⌜ r ≡ refusedReply number ⌝ }
 {
     plain(Answer::Refused(refuse(number)))
@@ -181,7 +181,7 @@ fn hardware(info: &[u8]) -> Reply
     if info.len() / 2 == 20 {
         return text(Answer::Hardware, 20, info);
     }
-    refuses(refusals::SHAPE)
+    refused(refusals::SHAPE)
 }
 
 fn serial(info: &[u8]) -> Reply
@@ -191,7 +191,7 @@ fn serial(info: &[u8]) -> Reply
     match n {
         20 => text(Answer::Serial(20), 20, info),
         40 => text(Answer::Serial(40), 40, info),
-        _ => refuses(refusals::SHAPE),
+        _ => refused(refusals::SHAPE),
     }
 }
 
@@ -201,7 +201,7 @@ fn accepted(info: &[u8]) -> Reply
     if info.len() / 2 == 0 {
         return plain(Answer::Accepted);
     }
-    refuses(refusals::SHAPE)
+    refused(refusals::SHAPE)
 }
 
 // An answer with the first n bytes as its text.

@@ -1,5 +1,5 @@
 // PACE settings in INFO: the values of a reply and those of a request (004, "Parameter Setting" tab; 01, PACE).
-// INFO comes as characters; what is said of it is said of the bytes that they carry.
+// INFO comes as characters; where they are no bytes that is refused first, and the rest is said of the bytes that they carry.
 use characters_pace::byte_of;
 use characters_pace::fault_of;
 use lists_pace::words_of;

@@ -1,5 +1,5 @@
 // The reply to 44, status (004, Get Status; 01, PACE).
-// INFO comes as characters; what is said of it is said of the bytes that they carry.
+// INFO comes as characters; where they are no bytes that is refused first, and the rest is said of the bytes that they carry.
 use counts_pace::Counts;
 use counts_pace::counts_of;
 use lists_pace::bytes_of;

@@ -13,11 +13,11 @@ plain-requires c κs = search needs
 returns : tie.Need-returns
 returns c = c .plain .ensures ∙ accepted-is _ (bytes-length _ ∙ c .before .if1 .taken)
 
-refuses-requires : tie.Need-refuses-requires
-refuses-requires c κs = search needs
+refused-requires : tie.Need-refused-requires
+refused-requires c κs = search needs
 
 returns-2 : tie.Need-returns-2
-returns-2 c = c .refuses .ensures ∙ not-accepted _ (λ e. c .before .if1 .left (sym (bytes-length _) ∙ e))
+returns-2 c = c .refused .ensures ∙ not-accepted _ (λ e. c .before .if1 .left (sym (bytes-length _) ∙ e))
 
 pub accepted-spec : {M : Type 1} → statement M
-accepted-spec = tie.close (tie.spec plain-requires returns refuses-requires returns-2)
+accepted-spec = tie.close (tie.spec plain-requires returns refused-requires returns-2)

@@ -11,14 +11,14 @@ use Rattle.records_pace.proofs.answered.Tie as tie
 is-listed-requires : tie.Need-is-listed-requires
 is-listed-requires c κs = search needs
 
-refuses-requires : tie.Need-refuses-requires
-refuses-requires c κs = search needs
+refused-requires : tie.Need-refused-requires
+refused-requires c κs = search needs
 
 returns : tie.Need-returns
 returns c =
     let l = c .before .before in
     let a = l .before .before .args in
-    c .refuses .ensures ∙ unlisted (a .address) (a .command) (a .code) (a .info .now) (sym (l .is-listed .ensures) ∙ not-true _ (c .before .if1 .taken))
+    c .refused .ensures ∙ unlisted (a .address) (a .command) (a .code) (a .info .now) (sym (l .is-listed .ensures) ∙ not-true _ (c .before .if1 .taken))
 
 plain-requires : tie.Need-plain-requires
 plain-requires c κs = search needs
@@ -30,8 +30,8 @@ returns-2 c =
     let a = l .before .before .args in
     c .plain .ensures ∙ failed (a .address) (a .command) (a .code) (a .info .now) (sym (l .is-listed .ensures) ∙ not-false _ (one .if1 .left)) (c .before .if2 .taken)
 
-refuses-requires-2 : tie.Need-refuses-requires-2
-refuses-requires-2 c κs = search needs
+refused-requires-2 : tie.Need-refused-requires-2
+refused-requires-2 c κs = search needs
 
 returns-3 : tie.Need-returns-3
 returns-3 c =
@@ -39,7 +39,7 @@ returns-3 c =
     let one = two .before in
     let l = one .before in
     let a = l .before .before .args in
-    c .refuses2 .ensures
+    c .refused2 .ensures
     ∙ odd (a .address) (a .command) (a .code) (a .info .now) (sym (l .is-listed .ensures) ∙ not-false _ (one .if1 .left)) (two .if2 .left) (not-true _ (c .before .if3 .taken))
 
 payload-requires : tie.Need-payload-requires
@@ -59,11 +59,11 @@ answered-spec =
     tie.close
     (tie.spec
     is-listed-requires
-    refuses-requires
+    refused-requires
     returns
     plain-requires
     returns-2
-    refuses-requires-2
+    refused-requires-2
     returns-3
     payload-requires
     returns-4)

@@ -13,11 +13,11 @@ text-requires c κs = search needs
 returns : tie.Need-returns
 returns c = c .text .ensures ∙ hardware-is _ (bytes-length _ ∙ c .before .if1 .taken)
 
-refuses-requires : tie.Need-refuses-requires
-refuses-requires c κs = search needs
+refused-requires : tie.Need-refused-requires
+refused-requires c κs = search needs
 
 returns-2 : tie.Need-returns-2
-returns-2 c = c .refuses .ensures ∙ no-hardware _ (λ e. c .before .if1 .left (sym (bytes-length _) ∙ e))
+returns-2 c = c .refused .ensures ∙ no-hardware _ (λ e. c .before .if1 .left (sym (bytes-length _) ∙ e))
 
 pub hardware-spec : {M : Type 1} → statement M
-hardware-spec = tie.close (tie.spec text-requires returns refuses-requires returns-2)
+hardware-spec = tie.close (tie.spec text-requires returns refused-requires returns-2)

@@ -65,8 +65,8 @@ accepted-requires c κs = search needs
 enum-told-6 : tie.Need-enum-told-6
 enum-told-6 c = search needs
 
-refuses-requires : tie.Need-refuses-requires
-refuses-requires c κs = search needs
+refused-requires : tie.Need-refused-requires
+refused-requires c κs = search needs
 
 returns : tie.Need-returns
 returns c = let told = c .before .before in c .with-analog .ensures ∙ ap ofAnalog (c .before .read-analog .ensures ∙ sym (checked-bytes _ _ _ (fine (told .before .before .before)))) ∙ known (told .before .before .before) _ (told .enum-told .given .1)
@@ -87,7 +87,7 @@ returns-6 : tie.Need-returns-6
 returns-6 c = let told = c .before in c .accepted .ensures ∙ known (told .before .before .before) _ (told .enum-told5 .given .1)
 
 returns-7 : tie.Need-returns-7
-returns-7 c = let told = c .before in c .refuses .ensures ∙ known (told .before .before .before) _ (told .enum-told6 .given .1)
+returns-7 c = let told = c .before in c .refused .ensures ∙ known (told .before .before .before) _ (told .enum-told6 .given .1)
 
 pub payload-spec : {M : Type 1} → statement M
 payload-spec =
@@ -109,7 +109,7 @@ payload-spec =
     enum-told-5
     accepted-requires
     enum-told-6
-    refuses-requires
+    refused-requires
     returns
     returns-2
     returns-3

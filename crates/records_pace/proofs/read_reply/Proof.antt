@@ -39,13 +39,13 @@ plain-requires c κs = search needs
 enum-known-f-2 : tie.Need-enum-known-f-2
 enum-known-f-2 c = search needs
 
-refuses-requires : tie.Need-refuses-requires
-refuses-requires c κs = search needs
+refused-requires : tie.Need-refused-requires
+refused-requires c κs = search needs
 
 returns : tie.Need-returns
 returns c =
     let k = c .before .before in
-    c .refuses .ensures ∙ other-address _ _ _ _ _ _ _ (is-frame k) (c .before .if1 .taken)
+    c .refused .ensures ∙ other-address _ _ _ _ _ _ _ (is-frame k) (c .before .if1 .taken)
 
 command-of-requires : tie.Need-command-of-requires
 command-of-requires c κs = search needs
@@ -85,7 +85,7 @@ read-reply-spec =
     enum-known-f
     plain-requires
     enum-known-f-2
-    refuses-requires
+    refused-requires
     returns
     command-of-requires
     add-answered

@@ -13,8 +13,8 @@ text-requires c κs = search needs
 text-requires-2 : tie.Need-text-requires-2
 text-requires-2 c κs = search needs
 
-refuses-requires : tie.Need-refuses-requires
-refuses-requires c κs = search needs
+refused-requires : tie.Need-refused-requires
+refused-requires c κs = search needs
 
 returns : tie.Need-returns
 returns c = c .text .ensures ∙ serial-20 _ (bytes-length _ ∙ c .before .match .keys1)
@@ -25,7 +25,7 @@ returns-2 c = c .text2 .ensures ∙ serial-40 _ (bytes-length _ ∙ c .before .m
 returns-3 : tie.Need-returns-3
 returns-3 c =
     let no = c .before .match .rest in
-    c .refuses .ensures ∙ no-serial _ (λ e. no .0 .1 (sym (bytes-length _) ∙ e)) (λ e. no .1 (sym (bytes-length _) ∙ e))
+    c .refused .ensures ∙ no-serial _ (λ e. no .0 .1 (sym (bytes-length _) ∙ e)) (λ e. no .1 (sym (bytes-length _) ∙ e))
 
 pub serial-spec : {M : Type 1} → statement M
 serial-spec =
@@ -33,7 +33,7 @@ serial-spec =
     (tie.spec
     text-requires
     text-requires-2
-    refuses-requires
+    refused-requires
     returns
     returns-2
     returns-3)
