@@ -10,13 +10,13 @@ use lib.ListN.{getD, drop, replicate}
 use Rattle.laws.specs.Choice.{pick}
 use Rattle.laws.specs.Firsts.{firsts}
 use Rattle.signs.specs.Signed.{signedOf}
+use Rattle.refusals.specs.declared.Refusal.{Refusal}
 use Rattle.refusals.specs.Refused.{refusedWith, shape}
 use Rattle.characters_pace.specs.Characters.{wordAt, wordsAt}
 use Rattle.counts_pace.specs.declared.Counts.{Counts}
-use Rattle.counts_pace.specs.declared.Counts.the-variants.{Are, Wrong}
+use Rattle.counts_pace.specs.declared.Counts.the-variants.{Are, Refused}
 use Rattle.counts_pace.specs.Counts.{countsOf}
 use Rattle.analog_pace.specs.declared.Analog.{Analog}
-use Rattle.analog_pace.specs.declared.Found.the-variants.{Refused}
 use Rattle.analog_pace.specs.declared.Found.the-variants as found
 use Rattle.analog_pace.specs.declared.Reading.{Reading}
 
@@ -42,21 +42,24 @@ numbersOf c t d =
       «design_10mah» = wordAt d (2 * c + 2 * t + 4 + 11);
     }
 
--- a payload of another shape
-abbrev pub nothing : Reading
-nothing = record { found = Refused (refusedWith shape); cells = replicate 16 0; temperatures = replicate 8 (pos 0) }
+-- a refusal, with nothing beside it
+abbrev pub nothing : Refusal → Reading
+nothing why = record { found = found.Refused why; cells = replicate 16 0; temperatures = replicate 8 (pos 0) }
 
--- with these counts, and 03 where it stands
-abbrev pub countedOf : Counts → List ℕ → Reading
-countedOf Wrong d = nothing
-countedOf (Are c t) d =
+-- c cells and t temperatures, with 03 where it stands
+unfoldable pub withCounts : ℕ → ℕ → List ℕ → Reading
+withCounts c t d =
     pick (eqb (getD d (2 * c + 2 * t + 10) 0) 3)
     (record {
       found = found.Analog (numbersOf c t d);
       cells = wordsAt 3 c d ++ drop c (replicate 16 0);
       temperatures = tenthsAt (2 * c + 4) t d ++ drop t (replicate 8 (pos 0));
     })
-    nothing
+    (nothing (refusedWith shape))
+
+abbrev pub byCounts : Counts → List ℕ → Reading
+byCounts (Are c t) d = withCounts c t d
+byCounts (Refused why) d = nothing why
 
 unfoldable pub readingOf : ℕ → List ℕ → Reading
-readingOf address d = countedOf (countsOf true 13 address d) d
+readingOf address d = byCounts (countsOf true 13 address d) d

@@ -1,5 +1,5 @@
 // The reply to 42, analog information (004, Get Analog Information; 01, PACE).
-// INFO comes as characters; what is said of it is said of the bytes that they carry.
+// INFO comes as characters; where they are no bytes that is refused first, and the rest is said of the bytes that they carry.
 use characters_pace::byte_of;
 use characters_pace::word_of;
 use counts_pace::Counts;
@@ -13,8 +13,8 @@ ghost use mathlib.Core.List.{_++_};
 ghost use Prim.Native.Nat.{_+_, _*_, _≤_};
 ghost use lib.IntN.{pos};
 ghost use lib.ListN.{drop, replicate};
-ghost use Rattle.characters_pace.specs.Characters.{bytesIn};
-ghost use Rattle.analog_pace.specs.Analog.{tenthsOf, tenthsAt, numbersOf, readingOf, nothing};
+ghost use Rattle.characters_pace.specs.Characters.{bytesIn, checkedInfo};
+ghost use Rattle.analog_pace.specs.Analog.{tenthsOf, tenthsAt, numbersOf, nothing, withCounts, readingOf};
 
 // The counts of cells and temperatures, and the numbers behind their values.
 pub struct Analog {
@@ -42,19 +42,27 @@ pub struct Reading {
 
 // The analog information in INFO, or why there is none.
 pub fn read_analog(address: u8, info: &[u8]) -> Reading
-    ensures { λ r. ⌜ r ≡ readingOf address (bytesIn (now (info .entry))) ⌝ }
+    ensures { λ r. ⌜ r ≡ checkedInfo nothing (readingOf address) (now (info .entry)) ⌝ }
 {
-    let Counts::Are {
-        cells,
-        temperatures,
-    } = counts_of(true, 13, address, info)
-    else {
-        return none();
-    };
+    let counts = counts_of(true, 13, address, info);
+    match counts {
+        Counts::Are {
+            cells,
+            temperatures,
+        } => with_counts(cells, temperatures, info),
+        Counts::Refused(why) => none(why),
+    }
+}
+
+// The analog information of so many cells and temperatures.
+fn with_counts(cells: u8, temperatures: u8, info: &[u8]) -> Reading
+    requires { ⌜ (cells ≤ 16) × (temperatures ≤ 8) ⌝ }
+    ensures { λ r. ⌜ r ≡ withCounts cells temperatures (bytesIn (now (info .entry))) ⌝ }
+{
     let c = cells as usize;
     let t = temperatures as usize;
     if byte_of(info, 2 * c + 2 * t + 10) != 3 {
-        return none();
+        return none(refuse(refusals::SHAPE));
     }
     let mut volts = [0u16; 16];
     words_of(info, 3, &mut volts[0..c]);
@@ -65,11 +73,11 @@ pub fn read_analog(address: u8, info: &[u8]) -> Reading
     }
 }
 
-fn none() -> Reading
-    ensures { λ r. ⌜ r ≡ nothing ⌝ }
+fn none(why: Refusal) -> Reading
+    ensures { λ r. ⌜ r ≡ nothing why ⌝ }
 {
     Reading {
-        found: Found::Refused(refuse(refusals::SHAPE)),
+        found: Found::Refused(why),
         cells: [0u16; 16],
         temperatures: [0i32; 8],
     }

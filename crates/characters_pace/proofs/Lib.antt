@@ -1,3 +1,4 @@
 pub mod Carried
+pub mod Checked
 pub mod Halves
 pub mod Tests

@@ -10,7 +10,8 @@ use native.Mathlib.Omega.{arith}
 use Rattle.laws.specs.Choice.{pick}
 use Rattle.laws.proofs.Ladders.{both, and-true, and-false}
 use Rattle.laws.proofs.Walk.{left-next, left-none}
-use Rattle.characters_pace.specs.Characters.{allOf}
+use Rattle.digits.specs.Hexes.{digitOf}
+use Rattle.characters_pace.specs.Characters.{isValue, allOf, allHex}
 
 -- the answer t of one test more
 noted-next : (t : Bool) (w : ℕ) (rest whole : Bool) → eqb w 0 && (t && rest) ≡ whole → eqb (pick t w 1) 0 && rest ≡ whole
@@ -64,3 +65,7 @@ module _ (p : ℕ → Bool) where
     pub noted-ended : length s ≤ i → eqb w 0 ≡ allOf p s
     unfolding allOf
     noted-ended h = sym (and-true (eqb w 0)) ∙ sym (ap (λ (l : List ℕ). eqb w 0 && allOf p l) (left-none s i h)) ∙ inv
+
+-- the parts of digits are digits
+pub hex-split : (a b : List ℕ) → allHex (a ++ b) ≡ true → (allHex a ≡ true) × (allHex b ≡ true)
+hex-split a b h = all-split (λ c. isValue (digitOf c)) a b h

@@ -3,17 +3,19 @@
 use mathlib.Core.Bool.{Bool, true, false, _&&_}
 use mathlib.Core.List.{List, [], _∷_, _++_}
 use Prim.Native.Nat.{ℕ, _+_, _*_, _/_, _%_}
-use lib.Dec.{ltb}
+use lib.Dec.{ltb, eqb}
 use lib.ListN.{length, getD, drop}
 use Rattle.laws.specs.Choice.{pick}
 use Rattle.laws.specs.Firsts.{firsts}
+use Rattle.refusals.specs.declared.Refusal.{Refusal}
+use Rattle.refusals.specs.Refused.{refusedWith, shape, character}
 use Rattle.digits.specs.declared.Hex.{Hex}
 use Rattle.digits.specs.declared.Hex.the-variants.{Value, Other}
 use Rattle.digits.specs.Hexes.{digitOf, byteOf, charOf}
 use Rattle.numbers.specs.declared.Order.the-variants.{HighFirst}
 use Rattle.numbers.specs.Bytes.{numberOf}
 
--- what a reading holds; 0 where there is none (no character of a whole frame is read so)
+-- what a reading holds; 0 where there is none (no character of a whole frame is read so, and none of INFO)
 abbrev pub valueIn : Hex → ℕ
 valueIn (Value v) = v
 valueIn Other = 0
@@ -36,6 +38,14 @@ unfoldable pub bytesIn : List ℕ → List ℕ
 bytesIn [] = []
 bytesIn (h ∷ []) = []
 bytesIn (h ∷ l ∷ s) = valueIn (byteOf h l) ∷ bytesIn s
+
+-- why characters are no bytes: one other than 0-9 or A-F is 13; "An odd INFO count is 8"; 0 where they are (01, Refusal numbers: 13 before 8)
+unfoldable pub faultOf : List ℕ → ℕ
+faultOf s = pick (allHex s) (pick (eqb (length s % 2) 0) 0 shape) character
+
+-- what a reader of bytes says of INFO, which is given as characters: why they are no bytes, before anything else
+unfoldable pub checkedInfo : {A : Type 0} → (Refusal → A) → (List ℕ → A) → List ℕ → A
+checkedInfo refused ofBytes s = pick (eqb (faultOf s) 0) (ofBytes (bytesIn s)) (refused (refusedWith (faultOf s)))
 
 -- each number as its high and its low half
 unfoldable pub halves : (ℕ → ℕ) → (ℕ → ℕ) → List ℕ → List ℕ

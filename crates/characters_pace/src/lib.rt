@@ -9,7 +9,8 @@ ghost use Prim.Native.Nat.{_<_};
 ghost use lib.ListN.{getD};
 ghost use Rattle.digits.specs.Hexes.{digitOf, byteOf};
 ghost use Rattle.laws.specs.Choice.{pick};
-ghost use Rattle.characters_pace.specs.Characters.{valueIn, isValue, allHex, bytesIn, wordAt};
+ghost use Rattle.refusals.specs.Refused.{shape, character};
+ghost use Rattle.characters_pace.specs.Characters.{valueIn, isValue, allHex, bytesIn, faultOf, wordAt};
 
 // Whether each character is one of 0-9 and A-F. Every character is looked at, so that several are at a time.
 pub fn all_hex(s: &[u8]) -> bool
@@ -47,6 +48,25 @@ fn is_hex(c: u8) -> bool
         Hex::Value(_) => true,
         Hex::Other => false,
     }
+}
+
+// Why characters are no bytes: 13 for one that is no digit, then 8 for an odd count; 0 where they are.
+pub fn fault_of(s: &[u8]) -> u8
+    ensures { λ r. ⌜ r ≡ faultOf (now (s .entry)) ⌝ }
+{
+    first_fault(all_hex(s), s.len() % 2 == 0)
+}
+
+fn first_fault(hex: bool, even: bool) -> u8
+    ensures { λ r. ⌜ r ≡ pick hex (pick even 0 shape) character ⌝ }
+{
+    if !hex {
+        return refusals::CHARACTER;
+    }
+    if !even {
+        return refusals::SHAPE;
+    }
+    0
 }
 
 // The byte at place i of the bytes that these characters are, 0 past their end.

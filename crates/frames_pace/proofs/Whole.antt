@@ -2,8 +2,8 @@
 -- Assumes nothing.
 use mathlib.Core.Path.{_≡_, sym, ap, _∙_}
 use mathlib.Core.Bool.{true}
-use mathlib.Core.List.{List}
-use Prim.Native.Nat.{ℕ, _+_, _-_}
+use mathlib.Core.List.{List, _++_}
+use Prim.Native.Nat.{ℕ, _+_, _-_, _≤_}
 use native.Mathlib.Omega.{arith}
 use borrow.Author.Tests.{ltb-false, eqb-true}
 use lib.Dec.{ltb, eqb}
@@ -16,7 +16,9 @@ use Rattle.lengths_pace.specs.Lengths.{countOf}
 use Rattle.refusals.specs.declared.Refusal.{Refusal}
 use Rattle.frames_pace.specs.declared.Frame.the-variants.{Whole, Refused}
 use Rattle.characters_pace.specs.Characters.{allHex, wordAt}
+use Rattle.characters_pace.proofs.Tests.{hex-split}
 use Rattle.frames_pace.specs.Frame.{innerOf, headOf, coveredOf, checkOf, infoOf, counts, counted, known, frameOf}
+use Rattle.frames_pace.proofs.Parts.{cut-pieces, head-length, check-length, in-pieces}
 
 pub record Said (s : List ℕ) (address command start len : ℕ) : Type 0 where
   pub starts : start ≡ 13
@@ -71,3 +73,14 @@ pub info-lent : (s : List ℕ) (a c st len : ℕ) → Said s a c st len → take
 info-lent s a c st len d =
     let n : st + len - st ≡ length s - 18 = omega arith in
     rw (n, d .starts)
+
+-- INFO has digits alone
+pub info-hex : (s : List ℕ) (a c st len : ℕ) → Said s a c st len → allHex (infoOf s) ≡ true
+info-hex s a c st len d =
+    let long : 18 ≤ length s = omega (arith, d .size) in
+    let head = take 12 (drop 1 s) in
+    let check = take 4 (drop (length s - 5) s) in
+    let cut = cut-pieces (getD s 0 0) head (infoOf s) check (getD s (length s - 1) 0) (head-length s long) (check-length s long) in
+    let inner : innerOf s ≡ head ++ (infoOf s ++ check) = ap innerOf (in-pieces s long) ∙ cut .inner in
+    let rest = hex-split head (infoOf s ++ check) (sym (ap allHex inner) ∙ d .hex) in
+    hex-split (infoOf s) check (rest .1) .0

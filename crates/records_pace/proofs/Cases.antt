@@ -6,11 +6,12 @@ use mathlib.Core.List.{List}
 use Prim.Native.Nat.{ℕ, _+_, _-_, _%_, _≤_}
 use borrow.Author.Tests.{eq-eqb, ne-eqb}
 use borrow.Rule.Slice.PartMut.{putMid}
+use lib.Dec.{eqb}
 use lib.IntN.{pos}
 use lib.ListN.{length, getD, take, replicate}
 use Rattle.laws.proofs.Firsts.{firsts-front}
 use Rattle.refusals.specs.declared.Refusal.{Refusal}
-use Rattle.refusals.specs.Refused.{refusedWith, address, request, shape}
+use Rattle.refusals.specs.Refused.{address, request, shape}
 use Rattle.characters_pace.specs.Characters.{bytesIn, bytesAt}
 use Rattle.frames_pace.specs.declared.Frame.the-variants as frame
 use Rattle.frames_pace.specs.Frame.{infoOf, frameOf}
@@ -19,7 +20,7 @@ use Rattle.rows_pace.specs.Commands.{commandOf, listed}
 use Rattle.records_pace.specs.declared.Answer.{Answer}
 use Rattle.records_pace.specs.declared.Answer.the-variants.{Hardware, Serial, Accepted, DeviceFailure, Refused}
 use Rattle.records_pace.specs.declared.Reply.{Reply}
-use Rattle.records_pace.specs.Reply.{bare, withText, hardwareOf, serialOf, acceptedOf, payloadReply, answeredOf, replyOf}
+use Rattle.records_pace.specs.Reply.{bare, refusedReply, withText, hardwareOf, serialOf, acceptedOf, payloadReply, answeredOf, replyOf}
 
 -- ---- texts
 
@@ -42,7 +43,7 @@ unfolding withText
 text-is a n d ys h y = rw (firsts-front (λ i. getD d (0 + i) 0) n places ys h y)
 
 module _ (d : List ℕ) where
-  pub no-hardware : (length d ≡ 20 → ⊥) → bare (Refused (refusedWith shape)) ≡ hardwareOf d
+  pub no-hardware : (length d ≡ 20 → ⊥) → refusedReply shape ≡ hardwareOf d
   unfolding hardwareOf
   no-hardware h = rw (ne-eqb _ _ h)
 
@@ -50,7 +51,7 @@ module _ (d : List ℕ) where
   unfolding hardwareOf
   hardware-is h = rw (eq-eqb _ _ h)
 
-  pub no-serial : (length d ≡ 20 → ⊥) → (length d ≡ 40 → ⊥) → bare (Refused (refusedWith shape)) ≡ serialOf d
+  pub no-serial : (length d ≡ 20 → ⊥) → (length d ≡ 40 → ⊥) → refusedReply shape ≡ serialOf d
   unfolding serialOf
   no-serial h k = rw (ne-eqb _ _ h, ne-eqb _ _ k)
 
@@ -62,7 +63,7 @@ module _ (d : List ℕ) where
   unfolding serialOf
   serial-40 h = rw h
 
-  pub not-accepted : (length d ≡ 0 → ⊥) → bare (Refused (refusedWith shape)) ≡ acceptedOf d
+  pub not-accepted : (length d ≡ 0 → ⊥) → refusedReply shape ≡ acceptedOf d
   unfolding acceptedOf
   not-accepted h = rw (ne-eqb _ _ h)
 
@@ -73,7 +74,7 @@ module _ (d : List ℕ) where
 -- ---- a whole frame from the address asked
 
 module _ (a : ℕ) (c : Command) (code : ℕ) (info : List ℕ) where
-  pub unlisted : listed c ≡ false → bare (Refused (refusedWith request)) ≡ answeredOf a c code info
+  pub unlisted : listed c ≡ false → refusedReply request ≡ answeredOf a c code info
   unfolding answeredOf
   unlisted h = rw h
 
@@ -83,13 +84,13 @@ module _ (a : ℕ) (c : Command) (code : ℕ) (info : List ℕ) where
     failed h = rw (known, ne-eqb _ _ h)
 
     module _ (fine : code ≡ 0) where
-      pub odd : (length info % 2 ≡ 0 → ⊥) → bare (Refused (refusedWith shape)) ≡ answeredOf a c code info
+      pub odd : eqb (length info % 2) 0 ≡ false → refusedReply shape ≡ answeredOf a c code info
       unfolding answeredOf
-      odd h = rw (known, eq-eqb _ _ fine, ne-eqb _ _ h)
+      odd h = rw (known, eq-eqb _ _ fine, h)
 
-      pub even : length info % 2 ≡ 0 → payloadReply a c (bytesIn info) ≡ answeredOf a c code info
+      pub even : eqb (length info % 2) 0 ≡ true → payloadReply a c (bytesIn info) ≡ answeredOf a c code info
       unfolding answeredOf
-      even h = rw (known, eq-eqb _ _ fine, eq-eqb _ _ h)
+      even h = rw (known, eq-eqb _ _ fine, h)
 
 -- ---- the reply
 
@@ -99,7 +100,7 @@ module _ (a asked : ℕ) (s : List ℕ) where
   no-frame w e = rw e
 
   module _ (from code st len : ℕ) (e : frameOf s ≡ frame.Whole from code st len) where
-    pub other-address : (from ≡ a → ⊥) → bare (Refused (refusedWith address)) ≡ replyOf a asked s
+    pub other-address : (from ≡ a → ⊥) → refusedReply address ≡ replyOf a asked s
     unfolding replyOf
     other-address h = rw (e, ne-eqb _ _ h)
 

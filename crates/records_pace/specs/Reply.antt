@@ -44,6 +44,10 @@ bare a =
       text = replicate 40 0;
     }
 
+-- a refusal with its number
+abbrev pub refusedReply : ℕ → Reply
+refusedReply n = bare (Refused (refusedWith n))
+
 abbrev pub analogAnswer : AnalogFound → Answer
 analogAnswer (analog.Analog a) = Analog a
 analogAnswer (analog.Refused w) = Refused w
@@ -94,15 +98,15 @@ withText a n d =
 
 -- C1: 20 bytes
 unfoldable pub hardwareOf : List ℕ → Reply
-hardwareOf d = pick (eqb (length d) 20) (withText Hardware 20 d) (bare (Refused (refusedWith shape)))
+hardwareOf d = pick (eqb (length d) 20) (withText Hardware 20 d) (refusedReply shape)
 
 -- C2: 20 or 40
 unfoldable pub serialOf : List ℕ → Reply
-serialOf d = pick (eqb (length d) 20 || eqb (length d) 40) (withText (Serial (length d)) (length d) d) (bare (Refused (refusedWith shape)))
+serialOf d = pick (eqb (length d) 20 || eqb (length d) 40) (withText (Serial (length d)) (length d) d) (refusedReply shape)
 
 -- "Replies to D0 and DA have empty INFO"
 unfoldable pub acceptedOf : List ℕ → Reply
-acceptedOf d = pick (eqb (length d) 0) (bare Accepted) (bare (Refused (refusedWith shape)))
+acceptedOf d = pick (eqb (length d) 0) (bare Accepted) (refusedReply shape)
 
 abbrev pub payloadReply : ℕ → Command → List ℕ → Reply
 payloadReply a command.Analog d = ofAnalog (analogs.readingOf a d)
@@ -111,7 +115,7 @@ payloadReply a command.Hardware d = hardwareOf d
 payloadReply a command.Serial d = serialOf d
 payloadReply a (command.Reads s) d = ofSetting (settings.replyOf s d)
 payloadReply a (command.Writes s) d = acceptedOf d
-payloadReply a command.Unlisted d = bare (Refused (refusedWith request))
+payloadReply a command.Unlisted d = refusedReply request
 
 -- ---- the reply
 
@@ -122,14 +126,14 @@ answeredOf a c code info =
     (pick (eqb code 0)
     (pick (eqb (length info % 2) 0)
     (payloadReply a c (bytesIn info))
-    (bare (Refused (refusedWith shape))))
+    (refusedReply shape))
     (bare (DeviceFailure code)))
-    (bare (Refused (refusedWith request)))
+    (refusedReply request)
 
 abbrev pub ofFrame : ℕ → ℕ → List ℕ → Frame → Reply
 ofFrame a asked s (frame.Refused w) = bare (Refused w)
 ofFrame a asked s (frame.Whole from code start len) =
-    pick (eqb from a) (answeredOf a (commandOf asked) code (infoOf s)) (bare (Refused (refusedWith address)))
+    pick (eqb from a) (answeredOf a (commandOf asked) code (infoOf s)) (refusedReply address)
 
 unfoldable pub replyOf : ℕ → ℕ → List ℕ → Reply
 replyOf a asked s = ofFrame a asked s (frameOf s)

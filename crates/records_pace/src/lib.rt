@@ -16,9 +16,10 @@ use settings_pace::read_setting;
 use warnings_pace::Warnings;
 use warnings_pace::read_warnings;
 ghost use mathlib.Core.Path.{_≡_};
+ghost use mathlib.Core.Bool.{true};
 ghost use Prim.Native.Nat.{_≤_};
-ghost use Rattle.characters_pace.specs.Characters.{bytesIn};
-ghost use Rattle.records_pace.specs.Reply.{bare, ofAnalog, ofWarnings, ofSetting, withText, hardwareOf, serialOf, acceptedOf, payloadReply, answeredOf, replyOf};
+ghost use Rattle.characters_pace.specs.Characters.{allHex, bytesIn, faultOf};
+ghost use Rattle.records_pace.specs.Reply.{bare, refusedReply, ofAnalog, ofWarnings, ofSetting, withText, hardwareOf, serialOf, acceptedOf, payloadReply, answeredOf, replyOf};
 
 pub enum Answer {
     // 42: the cells' millivolts and the temperatures stand in the reply's rows.
@@ -62,7 +63,7 @@ pub fn read_reply(address: u8, asked: u8, s: &[u8]) -> Reply
             len,
         } => {
             if from != address {
-                return plain(Answer::Refused(refuse(refusals::ADDRESS)));
+                return refused(refusals::ADDRESS);
             }
             answered(address, command_of(asked), code, &s[start..start + len])
         }
@@ -71,22 +72,26 @@ pub fn read_reply(address: u8, asked: u8, s: &[u8]) -> Reply
 
 // A whole frame from the right address: its return code and INFO, as the answer to this command.
 fn answered(address: u8, command: Command, code: u8, info: &[u8]) -> Reply
+    requires { ⌜ allHex (now info) ≡ true ⌝ }
     ensures { λ r. ⌜ r ≡ answeredOf address command code (now (info .entry)) ⌝ }
 {
-    if !is_listed(command) {
-        return plain(Answer::Refused(refuse(refusals::REQUEST)));
+    let listed = is_listed(command);
+    let even = info.len() % 2 == 0;
+    if !listed {
+        return refused(refusals::REQUEST);
     }
     if code != 0 {
         return plain(Answer::DeviceFailure(code));
     }
-    if info.len() % 2 != 0 {
-        return plain(Answer::Refused(refuse(refusals::SHAPE)));
+    if !even {
+        return refused(refusals::SHAPE);
     }
     payload(address, command, info)
 }
 
 // The record that the command calls for.
 fn payload(address: u8, command: Command, info: &[u8]) -> Reply
+    requires { ⌜ faultOf (now info) ≡ 0 ⌝ }
     ensures { λ r. ⌜ r ≡ payloadReply address command (bytesIn (now (info .entry))) ⌝ }
 {
     match command {
@@ -96,7 +101,7 @@ fn payload(address: u8, command: Command, info: &[u8]) -> Reply
         Command::Serial => serial(info),
         Command::Reads(setting) => with_setting(read_setting(setting, info)),
         Command::Writes(_) => accepted(info),
-        Command::Unlisted => plain(Answer::Refused(refuse(refusals::REQUEST))),
+        Command::Unlisted => refused(refusals::REQUEST),
     }
 }
 
@@ -112,6 +117,13 @@ fn plain(answer: Answer) -> Reply
         temperature_warnings: [0u8; 8],
         text: [0u8; 40],
     }
+}
+
+// A refusal with its number.
+fn refused(number: u8) -> Reply
+    ensures { λ r. ⌜ r ≡ refusedReply number ⌝ }
+{
+    plain(Answer::Refused(refuse(number)))
 }
 
 fn with_analog(r: analog_pace::Reading) -> Reply
@@ -166,10 +178,10 @@ fn with_setting(found: Found) -> Reply
 fn hardware(info: &[u8]) -> Reply
     ensures { λ r. ⌜ r ≡ hardwareOf (bytesIn (now (info .entry))) ⌝ }
 {
-    if info.len() / 2 != 20 {
-        return plain(Answer::Refused(refuse(refusals::SHAPE)));
+    if info.len() / 2 == 20 {
+        return text(Answer::Hardware, 20, info);
     }
-    text(Answer::Hardware, 20, info)
+    refused(refusals::SHAPE)
 }
 
 fn serial(info: &[u8]) -> Reply
@@ -179,17 +191,17 @@ fn serial(info: &[u8]) -> Reply
     match n {
         20 => text(Answer::Serial(20), 20, info),
         40 => text(Answer::Serial(40), 40, info),
-        _ => plain(Answer::Refused(refuse(refusals::SHAPE))),
+        _ => refused(refusals::SHAPE),
     }
 }
 
 fn accepted(info: &[u8]) -> Reply
     ensures { λ r. ⌜ r ≡ acceptedOf (bytesIn (now (info .entry))) ⌝ }
 {
-    if info.len() / 2 != 0 {
-        return plain(Answer::Refused(refuse(refusals::SHAPE)));
+    if info.len() / 2 == 0 {
+        return plain(Answer::Accepted);
     }
-    plain(Answer::Accepted)
+    refused(refusals::SHAPE)
 }
 
 // An answer with the first n bytes as its text.

@@ -1,17 +1,21 @@
 -- The cases of `wholeOf` and `parsedOf`, each from the facts that the reader has at that place.
 -- Assumes nothing.
-use mathlib.Core.Path.{_≡_}
+use mathlib.Core.Path.{_≡_, refl}
+use mathlib.Core.Bool.{Bool, true, false}
 use mathlib.Core.List.{List}
 use Prim.Native.Nat.{ℕ, _%_}
 use borrow.Author.Tests.{eq-eqb, ne-eqb}
+use lib.Dec.{eqb}
 use lib.ListN.{length, getD}
+use Rattle.laws.specs.Choice.{pick}
 use Rattle.refusals.specs.declared.Refusal.{Refusal}
 use Rattle.refusals.specs.Refused.{refusedWith, request, shape}
-use Rattle.characters_pace.specs.Characters.{bytesIn}
+use Rattle.characters_pace.specs.Characters.{allHex, bytesIn, faultOf, checkedInfo}
 use Rattle.frames_pace.specs.declared.Frame.the-variants as frame
 use Rattle.frames_pace.specs.Frame as frames
 use Rattle.rows_pace.specs.declared.Setting.{Setting}
 use Rattle.rows_pace.specs.Commands.{commandOf}
+use Rattle.settings_pace.specs.declared.Found.the-variants as setting
 use Rattle.settings_pace.specs.Reading as settings
 use Rattle.requests_pace.specs.declared.Kind.the-variants.{Addressed, Bare, Carries, Unlisted}
 use Rattle.requests_pace.specs.declared.Request.the-variants.{Ask}
@@ -48,13 +52,19 @@ module _ (address code : ℕ) (info : List ℕ) where
     empty h = rw (k, eq-eqb _ _ h)
 
   module _ (s : Setting) (k : kindOf (commandOf code) ≡ Carries s) where
-    pub odd : (length info % 2 ≡ 0 → ⊥) → Refused (refusedWith shape) ≡ wholeOf address code info
-    unfolding wholeOf
-    odd h = rw (k, ne-eqb _ _ h)
-
     pub carried : length info % 2 ≡ 0 → ofFound address (settings.requestOf s (bytesIn info)) ≡ wholeOf address code info
     unfolding wholeOf
     carried h = rw (k, eq-eqb _ _ h)
+
+    -- of digits alone, by the count: the reader of the setting tests it
+    pub by-setting : allHex info ≡ true → ofFound address (checkedInfo setting.Refused (settings.requestOf s) info) ≡ wholeOf address code info
+    unfolding wholeOf checkedInfo faultOf
+    by-setting hex = rw (k, hex) (go (eqb (length info % 2) 0))
+      where
+        go : (t : Bool) → ofFound address (pick (eqb (pick t 0 shape) 0) (settings.requestOf s (bytesIn info)) (setting.Refused (refusedWith (pick t 0 shape))))
+            ≡ pick t (ofFound address (settings.requestOf s (bytesIn info))) (Refused (refusedWith shape))
+        go true = refl
+        go false = refl
 
 module _ (s : List ℕ) where
   pub no-frame : (w : Refusal) → frames.frameOf s ≡ frame.Refused w → Refused w ≡ parsedOf s

@@ -33,7 +33,8 @@ use Rattle.rows_pace.specs.Commands.{commandOf}
 use Rattle.rows_pace.specs.Rows.{rowOf, settingOf}
 use Rattle.writes_pace.specs.Allowed.{allowedOf}
 use Rattle.writes_pace.specs.Info as rows
-use Rattle.rows_pace.proofs.Commands.{writes-itself, writes-small, writes-only}
+use Rattle.rows_pace.proofs.Commands.{writes-itself, writes-only}
+use Rattle.rows_pace.proofs.Rows.{writes-small}
 use Rattle.settings_pace.specs.declared.Found.{Found}
 use Rattle.settings_pace.specs.declared.Found.the-variants as setting
 use Rattle.settings_pace.specs.Reading as settings

@@ -15,6 +15,8 @@ use settings_pace::parse_setting;
 use writes_pace::info_of;
 use writes_pace::may_write;
 ghost use mathlib.Core.Path.{_≡_};
+ghost use mathlib.Core.Bool.{true};
+ghost use Rattle.characters_pace.specs.Characters.{allHex};
 ghost use Rattle.requests_pace.specs.Request.{kindOf, writtenOf, roomAfter};
 ghost use Rattle.requests_pace.specs.Parsed.{ofFound, wholeOf, parsedOf};
 
@@ -112,6 +114,7 @@ pub fn read_request(s: &[u8]) -> Parsed
 
 // A whole frame: its address, its command and its INFO.
 fn whole(address: u8, code: u8, info: &[u8]) -> Parsed
+    requires { ⌜ allHex (now info) ≡ true ⌝ }
     ensures { λ r. ⌜ r ≡ wholeOf address code (now (info .entry)) ⌝ }
 {
     let k = kind_of(command_of(code));
@@ -137,12 +140,7 @@ fn whole(address: u8, code: u8, info: &[u8]) -> Parsed
                 command: code,
             })
         }
-        Kind::Carries(setting) => {
-            if info.len() % 2 != 0 {
-                return Parsed::Refused(refuse(refusals::SHAPE));
-            }
-            with_values(address, parse_setting(setting, info))
-        }
+        Kind::Carries(setting) => with_values(address, parse_setting(setting, info)),
         Kind::Unlisted => Parsed::Refused(refuse(refusals::REQUEST)),
     }
 }

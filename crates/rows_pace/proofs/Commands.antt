@@ -1,46 +1,97 @@
--- The command that writes a setting is the one that its row names, and no other code is taken for it.
+-- The commands that read and write a setting are those that its row names, and no other code is taken for them; and a loop along the rows.
 -- Assumes nothing.
 use mathlib.Core.Path.{_≡_, refl, sym, ap, _∙_}
 use mathlib.Core.Bool.{Bool, true, false}
 use mathlib.Core.List.{List, [], _∷_}
-use Prim.Native.Nat.{ℕ, _<_}
-use native.Mathlib.Omega.{arith}
-use borrow.Author.Tests.{eqb-true}
-use lib.Dec.{lit<, eqb}
+use Prim.Native.Nat.{ℕ, _+_, _<_, _≤_}
+use native.Mathlib.Numerals.{add-one}
+use borrow.Author.Tests.{eq-eqb, ne-eqb, eqb-true}
+use lib.Dec.{eqb}
+use lib.ListN.{length, getD, drop, drop-of-length-le}
+use lib.Seq.{drop-cons}
 use Rattle.laws.specs.Choice.{pick}
-use Rattle.laws.proofs.Ladders.{past}
-use Rattle.rows_pace.specs.declared.Command.the-variants.{Analog, Warnings, Hardware, Serial, Reads, Writes}
+use Rattle.rows_pace.specs.declared.Command.{Command}
+use Rattle.rows_pace.specs.declared.Command.the-variants.{Analog, Warnings, Hardware, Serial, Reads, Writes, Unlisted}
 use Rattle.rows_pace.specs.declared.Setting.{Setting}
 use Rattle.rows_pace.specs.declared.Setting.the-variants.{Overvoltage, Discharge}
 use Rattle.rows_pace.specs.Rows.{settings, rowOf}
 use Rattle.rows_pace.specs.Commands.{bySetting, commandOf}
+
+-- no two rows share a command, and none has one of the other four
+pub reads-itself : (s : Setting) → commandOf (rowOf s .reads) ≡ Reads s
+unfolding commandOf bySetting settings rowOf
+reads-itself Overvoltage = refl
+reads-itself Discharge = refl
 
 pub writes-itself : (s : Setting) → commandOf (rowOf s .writes) ≡ Writes s
 unfolding commandOf bySetting settings rowOf
 writes-itself Overvoltage = refl
 writes-itself Discharge = refl
 
-pub writes-small : (s : Setting) → rowOf s .writes < 256
-unfolding rowOf
-writes-small Overvoltage = lit< tt
-writes-small Discharge = lit< tt
+-- ---- the code of a command that was found from c: the one that its row names
 
-by-setting : (l : List Setting) (c : ℕ) (s : Setting) → Writes s ≡ bySetting l c → c ≡ rowOf s .writes
-unfolding bySetting
-by-setting [] c s e = let z : _≡_ {A = ℕ} 0 1 = cc in absurd (omega arith)
-by-setting (x ∷ more) c s e =
-    let f = past (eqb c (rowOf x .reads)) (Reads x) _ _ (λ h. let z : _≡_ {A = ℕ} 0 1 = cc in omega arith) e in
-    go (eqb c (rowOf x .writes)) refl (f .1) (by-setting more c s)
-  where
-    go : (b : Bool) → eqb c (rowOf x .writes) ≡ b → Writes s ≡ pick b (Writes x) (bySetting more c) → (Writes s ≡ bySetting more c → c ≡ rowOf s .writes) → c ≡ rowOf s .writes
-    go true t h rest = let same : s ≡ x = cc in eqb-true c (rowOf x .writes) t ∙ sym (ap (λ (q : Setting). rowOf q .writes) same)
-    go false t h rest = rest h
+abbrev codeOf : ℕ → Command → ℕ
+codeOf c Analog = c
+codeOf c Warnings = c
+codeOf c Hardware = c
+codeOf c Serial = c
+codeOf c (Reads s) = rowOf s .reads
+codeOf c (Writes s) = rowOf s .writes
+codeOf c Unlisted = c
 
-pub writes-only : (c : ℕ) (s : Setting) → commandOf c ≡ Writes s → c ≡ rowOf s .writes
+module _ (c : ℕ) where
+  -- one test more, of the code n
+  of-test : (n : ℕ) (x y : Command) → (c ≡ n → codeOf c x ≡ c) → codeOf c y ≡ c → codeOf c (pick (eqb c n) x y) ≡ c
+  of-test n x y h k = go (eqb c n) refl
+    where
+      go : (t : Bool) → eqb c n ≡ t → codeOf c (pick t x y) ≡ c
+      go true e = h (eqb-true c n e)
+      go false e = k
+
+  of-settings : (l : List Setting) → codeOf c (bySetting l c) ≡ c
+  unfolding bySetting
+  of-settings [] = refl
+  of-settings (s ∷ more) =
+      of-test (rowOf s .reads) (Reads s) (pick (eqb c (rowOf s .writes)) (Writes s) (bySetting more c)) (λ e. sym e)
+      (of-test (rowOf s .writes) (Writes s) (bySetting more c) (λ e. sym e) (of-settings more))
+
+  code-again : codeOf c (commandOf c) ≡ c
+  unfolding commandOf
+  code-again =
+      of-test 0x42 Analog _ (λ e. refl) (of-test 0x44 Warnings _ (λ e. refl) (of-test 0xC1 Hardware _ (λ e. refl) (of-test 0xC2 Serial _ (λ e. refl) (of-settings settings))))
+
+  -- a command that reads or writes a setting is the one that its row names
+  pub reads-only : (s : Setting) → commandOf c ≡ Reads s → c ≡ rowOf s .reads
+  reads-only s e = sym code-again ∙ ap (codeOf c) e
+
+  pub writes-only : (s : Setting) → commandOf c ≡ Writes s → c ≡ rowOf s .writes
+  writes-only s e = sym code-again ∙ ap (codeOf c) e
+
+-- no command of its own: the rows say
+pub by-rows : (c : ℕ) → (c ≡ 0x42 → ⊥) → (c ≡ 0x44 → ⊥) → (c ≡ 0xC1 → ⊥) → (c ≡ 0xC2 → ⊥) → bySetting settings c ≡ commandOf c
 unfolding commandOf
-writes-only c s e =
-    let a = past (eqb c 0x42) Analog _ _ (λ h. let z : _≡_ {A = ℕ} 0 1 = cc in omega arith) (sym e) in
-    let b = past (eqb c 0x44) Warnings _ _ (λ h. let z : _≡_ {A = ℕ} 0 1 = cc in omega arith) (a .1) in
-    let d = past (eqb c 0xC1) Hardware _ _ (λ h. let z : _≡_ {A = ℕ} 0 1 = cc in omega arith) (b .1) in
-    let f = past (eqb c 0xC2) Serial _ _ (λ h. let z : _≡_ {A = ℕ} 0 1 = cc in omega arith) (d .1) in
-    by-setting settings c s (f .1)
+by-rows c a w h s = rw (ne-eqb _ _ a, ne-eqb _ _ w, ne-eqb _ _ h, ne-eqb _ _ s)
+
+-- ---- a loop along the settings, for as long as those that are left have the answer of all
+
+module _ (l : List Setting) (c i : ℕ) (inv : bySetting (drop i l) c ≡ bySetting l c) where
+  module _ (any : Setting) (h : i < length l) where
+    next : bySetting (getD l i any ∷ drop (i + 1) l) c ≡ bySetting l c
+    next = rw (add-one i) (sym (ap (λ (k : List Setting). bySetting k c) (drop-cons l i any h)) ∙ inv)
+
+    pub reads-here : c ≡ rowOf (getD l i any) .reads → Reads (getD l i any) ≡ bySetting l c
+    unfolding bySetting
+    reads-here e = rw (eq-eqb _ _ e) at next
+
+    module _ (other : c ≡ rowOf (getD l i any) .reads → ⊥) where
+      pub writes-here : c ≡ rowOf (getD l i any) .writes → Writes (getD l i any) ≡ bySetting l c
+      unfolding bySetting
+      writes-here e = rw (ne-eqb _ _ other, eq-eqb _ _ e) at next
+
+      pub neither-here : (c ≡ rowOf (getD l i any) .writes → ⊥) → bySetting (drop (i + 1) l) c ≡ bySetting l c
+      unfolding bySetting
+      neither-here e = rw (ne-eqb _ _ other, ne-eqb _ _ e) at next
+
+  pub none-left : length l ≤ i → Unlisted ≡ bySetting l c
+  unfolding bySetting
+  none-left h = sym (ap (λ (k : List Setting). bySetting k c) (drop-of-length-le l h)) ∙ inv

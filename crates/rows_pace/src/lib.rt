@@ -1,13 +1,16 @@
 // PACE commands, and the settings that can be read and written, each by a row (004, "Parameter Setting" tab; 01, PACE).
 ghost use mathlib.Core.Path.{_≡_};
-ghost use Rattle.rows_pace.specs.Commands.{commandOf, listed};
-ghost use Rattle.rows_pace.specs.Rows.{rowOf, valuesOf};
+ghost use Rattle.rows_pace.specs.Commands.{bySetting, commandOf, listed};
+ghost use Rattle.rows_pace.specs.Rows.{settings, rowOf, valuesOf};
 
 // A setting's row.
 pub enum Setting {
     Overvoltage,
     Discharge,
 }
+
+// Every setting.
+const SETTINGS: [Setting; 2] = [Setting::Overvoltage, Setting::Discharge];
 
 // What a row looks like, read and written.
 pub struct Row {
@@ -79,12 +82,27 @@ pub fn command_of(code: u8) -> Command
         0x44 => Command::Warnings,
         0xC1 => Command::Hardware,
         0xC2 => Command::Serial,
-        0xD1 => Command::Reads(Setting::Overvoltage),
-        0xD0 => Command::Writes(Setting::Overvoltage),
-        0xDB => Command::Reads(Setting::Discharge),
-        0xDA => Command::Writes(Setting::Discharge),
-        _ => Command::Unlisted,
+        _ => by_setting(code),
     }
+}
+
+// What a command is for by the settings' rows.
+fn by_setting(code: u8) -> Command
+    ensures { λ r. ⌜ r ≡ bySetting settings code ⌝ }
+{
+    let mut i = 0usize;
+    while i < SETTINGS.len() {
+        let setting = SETTINGS[i];
+        let row = row_of(setting);
+        if code == row.reads {
+            return Command::Reads(setting);
+        }
+        if code == row.writes {
+            return Command::Writes(setting);
+        }
+        i += 1;
+    }
+    Command::Unlisted
 }
 
 // Whether a command is one of those that are listed.

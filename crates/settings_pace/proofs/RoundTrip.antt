@@ -7,7 +7,7 @@ use mathlib.Core.List.{List, [], _∷_, _++_}
 use Prim.Native.Nat.{ℕ, zero, suc, _+_, _-_, _*_, _/_, _%_, _<_, _≤_}
 use native.Mathlib.Omega.{arith}
 use borrow.Author.Tests.{eq-eqb, eqb-true, leb-true}
-use lib.Dec.{lit<, leb, eqb}
+use lib.Dec.{leb, eqb}
 use lib.ListN.{length, getD, length-append}
 use lib.Seq.{getD-at}
 use Rattle.laws.specs.Firsts.{firsts}
@@ -18,7 +18,6 @@ use Rattle.refusals.specs.declared.Refusal.{Refusal}
 use Rattle.characters_pace.specs.Characters.{allOf, halves, wordAt, wordsAt}
 use Rattle.characters_pace.proofs.Halves.{halves-length}
 use Rattle.rows_pace.specs.declared.Setting.{Setting}
-use Rattle.rows_pace.specs.declared.Setting.the-variants.{Overvoltage, Discharge}
 use Rattle.rows_pace.specs.declared.Row.{Row}
 use Rattle.rows_pace.specs.declared.Values.{Values}
 use Rattle.settings_pace.specs.declared.Found.the-variants.{Set, Refused}
@@ -26,7 +25,7 @@ use Rattle.rows_pace.specs.Rows.{rowOf, settingOf, amountsOf, delayOf, valuesOf
 use Rattle.writes_pace.specs.Allowed.{inSteps, allowed, allowedOf}
 use Rattle.writes_pace.specs.Info.{pairsOf, payload, infoOf}
 use Rattle.settings_pace.specs.Reading.{shaped, wordsIn, delayIn, requestOf}
-use Rattle.rows_pace.proofs.Rows.{few, amounts-count, values-again, setting-again, delay-again, amounts-again}
+use Rattle.rows_pace.proofs.Rows.{few, highs, leads, amounts-count, values-again, setting-again, delay-again, amounts-again}
 
 -- ---- two bytes at a time
 
@@ -126,17 +125,6 @@ pairs-bytes [] delay h = (h, tt)
 pairs-bytes (x ∷ a) delay h = (omega arith, (omega arith, pairs-bytes a delay h))
 
 -- ---- of every setting
-
--- amounts and delays that may be written fit two bytes and one
-highs : (s : Setting) → (rowOf s .high < 65536) × (rowOf s .«delay_high» < 256)
-unfolding rowOf
-highs Overvoltage = (lit< tt, lit< tt)
-highs Discharge = (lit< tt, lit< tt)
-
-leads : (s : Setting) → rowOf s .lead < 256
-unfolding rowOf
-leads Overvoltage = lit< tt
-leads Discharge = lit< tt
 
 below : (low high step n : ℕ) → inSteps low high step n ≡ true → n ≤ high
 below low high step n e = leb-true n high (both (leb n high) (eqb ((n - low) % step) 0) (both (leb low n) (leb n high && eqb ((n - low) % step) 0) e .1) .0)

@@ -1,6 +1,7 @@
 // PACE settings in INFO: the values of a reply and those of a request (004, "Parameter Setting" tab; 01, PACE).
-// INFO comes as characters; what is said of it is said of the bytes that they carry.
+// INFO comes as characters; where they are no bytes that is refused first, and the rest is said of the bytes that they carry.
 use characters_pace::byte_of;
+use characters_pace::fault_of;
 use lists_pace::words_of;
 use refusals::Refusal;
 use refusals::refuse;
@@ -14,7 +15,7 @@ use writes_pace::may_write;
 ghost use mathlib.Core.Path.{_≡_};
 ghost use mathlib.Core.List.{map};
 ghost use Prim.Native.Nat.{_≤_};
-ghost use Rattle.characters_pace.specs.Characters.{allOf, bytesIn};
+ghost use Rattle.characters_pace.specs.Characters.{allOf, bytesIn, checkedInfo};
 ghost use Rattle.settings_pace.specs.Reading.{shaped, amountOf, isAmount, amountIn, replyOf, requestOf};
 
 // The values of a setting in INFO, or why there are none.
@@ -23,8 +24,30 @@ pub enum Found {
     Refused(Refusal),
 }
 
-// The values in the INFO of a reply: all are kept; a positive amount in a negated row is refused.
+// The values in the INFO of a reply, or why there are none.
 pub fn read_setting(setting: Setting, info: &[u8]) -> Found
+    ensures { λ r. ⌜ r ≡ checkedInfo Found.Refused (replyOf setting) (now (info .entry)) ⌝ }
+{
+    let fault = fault_of(info);
+    if fault != 0 {
+        return Found::Refused(refuse(fault));
+    }
+    in_reply(setting, info)
+}
+
+// The values in the INFO of a request, or why there are none.
+pub fn parse_setting(setting: Setting, info: &[u8]) -> Found
+    ensures { λ r. ⌜ r ≡ checkedInfo Found.Refused (requestOf setting) (now (info .entry)) ⌝ }
+{
+    let wrong = fault_of(info);
+    if wrong != 0 {
+        return Found::Refused(refuse(wrong));
+    }
+    in_request(setting, info)
+}
+
+// In a reply all values are kept; a positive amount in a negated row is refused.
+fn in_reply(setting: Setting, info: &[u8]) -> Found
     ensures { λ r. ⌜ r ≡ replyOf setting (bytesIn (now (info .entry))) ⌝ }
 {
     let row = row_of(setting);
@@ -42,8 +65,8 @@ pub fn read_setting(setting: Setting, info: &[u8]) -> Found
     Found::Set(values_of(setting, amounts, byte_of(info, 2 * n + 1)))
 }
 
-// The values in the INFO of a request: the plain amounts, all of which may be written.
-pub fn parse_setting(setting: Setting, info: &[u8]) -> Found
+// A request has the plain amounts, all of which may be written.
+fn in_request(setting: Setting, info: &[u8]) -> Found
     ensures { λ r. ⌜ r ≡ requestOf setting (bytesIn (now (info .entry))) ⌝ }
 {
     let row = row_of(setting);

@@ -4,10 +4,10 @@ use mathlib.Core.Bool.{false}
 use mathlib.Core.List.{List, _++_}
 use Prim.Native.Nat.{ℕ, _+_}
 use lib.ListN.{getD, drop, replicate}
-use Rattle.refusals.specs.Refused.{refusedWith, shape}
+use Rattle.refusals.specs.declared.Refusal.{Refusal}
 use Rattle.characters_pace.specs.Characters.{bytesAt}
 use Rattle.counts_pace.specs.declared.Counts.{Counts}
-use Rattle.counts_pace.specs.declared.Counts.the-variants.{Are, Wrong}
+use Rattle.counts_pace.specs.declared.Counts.the-variants.{Are, Refused}
 use Rattle.counts_pace.specs.Counts.{countsOf}
 use Rattle.warnings_pace.specs.declared.Warnings.{Warnings}
 use Rattle.warnings_pace.specs.declared.Found.the-variants as found
@@ -33,19 +33,22 @@ statusOf c t d =
       warning2 = getD d (c + t + 4 + 11) 0;
     }
 
--- a payload of another shape
-abbrev pub nothing : Reading
-nothing = record { found = found.Refused (refusedWith shape); cells = replicate 16 0; temperatures = replicate 8 0 }
+-- a refusal, with nothing beside it
+abbrev pub nothing : Refusal → Reading
+nothing why = record { found = found.Refused why; cells = replicate 16 0; temperatures = replicate 8 0 }
 
--- with these counts
-abbrev pub countedOf : Counts → List ℕ → Reading
-countedOf Wrong d = nothing
-countedOf (Are c t) d =
+-- c cells and t temperatures
+unfoldable pub withCounts : ℕ → ℕ → List ℕ → Reading
+withCounts c t d =
     record {
       found = found.Warnings (statusOf c t d);
       cells = bytesAt 3 c d ++ drop c (replicate 16 0);
       temperatures = bytesAt (c + 4) t d ++ drop t (replicate 8 0);
     }
 
+abbrev pub byCounts : Counts → List ℕ → Reading
+byCounts (Are c t) d = withCounts c t d
+byCounts (Refused why) d = nothing why
+
 unfoldable pub readingOf : ℕ → List ℕ → Reading
-readingOf address d = countedOf (countsOf false 12 address d) d
+readingOf address d = byCounts (countsOf false 12 address d) d

@@ -1,14 +1,13 @@
 // The reply to 44, status (004, Get Status; 01, PACE).
-// INFO comes as characters; what is said of it is said of the bytes that they carry.
+// INFO comes as characters; where they are no bytes that is refused first, and the rest is said of the bytes that they carry.
 use counts_pace::Counts;
 use counts_pace::counts_of;
 use lists_pace::bytes_of;
 use refusals::Refusal;
-use refusals::refuse;
 ghost use mathlib.Core.Path.{_≡_};
 ghost use Prim.Native.Nat.{_≤_};
-ghost use Rattle.characters_pace.specs.Characters.{bytesIn};
-ghost use Rattle.warnings_pace.specs.Warnings.{statusOf, readingOf, nothing};
+ghost use Rattle.characters_pace.specs.Characters.{bytesIn, checkedInfo};
+ghost use Rattle.warnings_pace.specs.Warnings.{statusOf, nothing, withCounts, readingOf};
 
 // The counts of cells and temperatures, and the twelve bytes behind their warnings.
 pub struct Warnings {
@@ -42,15 +41,23 @@ pub struct Reading {
 
 // The warnings in INFO, or why there are none.
 pub fn read_warnings(address: u8, info: &[u8]) -> Reading
-    ensures { λ r. ⌜ r ≡ readingOf address (bytesIn (now (info .entry))) ⌝ }
+    ensures { λ r. ⌜ r ≡ checkedInfo nothing (readingOf address) (now (info .entry)) ⌝ }
 {
-    let Counts::Are {
-        cells,
-        temperatures,
-    } = counts_of(false, 12, address, info)
-    else {
-        return none();
-    };
+    let counts = counts_of(false, 12, address, info);
+    match counts {
+        Counts::Are {
+            cells,
+            temperatures,
+        } => with_counts(cells, temperatures, info),
+        Counts::Refused(why) => none(why),
+    }
+}
+
+// The warnings of so many cells and temperatures.
+fn with_counts(cells: u8, temperatures: u8, info: &[u8]) -> Reading
+    requires { ⌜ (cells ≤ 16) × (temperatures ≤ 8) ⌝ }
+    ensures { λ r. ⌜ r ≡ withCounts cells temperatures (bytesIn (now (info .entry))) ⌝ }
+{
     let c = cells as usize;
     let t = temperatures as usize;
     let mut of_cells = [0u8; 16];
@@ -64,11 +71,11 @@ pub fn read_warnings(address: u8, info: &[u8]) -> Reading
     }
 }
 
-fn none() -> Reading
-    ensures { λ r. ⌜ r ≡ nothing ⌝ }
+fn none(why: Refusal) -> Reading
+    ensures { λ r. ⌜ r ≡ nothing why ⌝ }
 {
     Reading {
-        found: Found::Refused(refuse(refusals::SHAPE)),
+        found: Found::Refused(why),
         cells: [0u8; 16],
         temperatures: [0u8; 8],
     }

@@ -11,12 +11,12 @@ use Rattle.analog_pace.proofs.tenths_of.Tie as tie
 cast-result : tie.Need-cast-result
 cast-result c = search needs
 
-sub-result : tie.Need-sub-result
-sub-result c = minus-fits w32 (c .args .count) 2730 (omega arith) (omega arith)
-
 returns : tie.Need-returns
 unfolding tenthsOf
 returns c = minus-held w32 (c .args .count) 2730 (omega arith) (omega arith)
+
+sub-result : tie.Need-sub-result
+sub-result c = minus-fits w32 (c .args .count) 2730 (omega arith) (omega arith)
 
 pub tenths-of-spec : {M : Type 1} → statement M
 tenths-of-spec = tie.close (tie.spec cast-result sub-result returns)

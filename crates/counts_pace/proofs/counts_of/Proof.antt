@@ -1,144 +1,89 @@
--- `counts_pace::counts_of` meets its contract: each way out is the case of `countsOf` that its tests name.
+-- `counts_pace::counts_of` meets its contract: the characters first, then the shape, then the counts of the bytes.
 -- Assumes nothing.
-use mathlib.Core.List.{List}
-use mathlib.Core.Path.{_≡_, sym, ap, ap₂, _∙_}
 use Prim.Native.Nat.{ℕ, _+_}
-use native.Mathlib.Omega.{arith}
+use mathlib.Core.Path.{_≡_, sym, ap, ap₂, _∙_}
+use borrow.Author.Tests.{not-true, not-false}
 use lib.ListN.{getD}
-use Rattle.characters_pace.specs.Characters.{bytesIn}
-use Rattle.characters_pace.proofs.Carried.{bytes-length}
-use Rattle.counts_pace.specs.declared.Counts.the-variants.{Are}
-use Rattle.counts_pace.specs.Counts.{spaceOf, cellsIn, temperaturesIn}
-use Rattle.counts_pace.proofs.Cases.{other-lead, other-address, no-cells, many-cells, many-temperatures, other-length, counts}
+use Rattle.refusals.specs.Refused.{refusedWith}
+use Rattle.characters_pace.specs.Characters.{bytesIn, faultOf}
+use Rattle.characters_pace.proofs.Checked.{checked-refused, checked-bytes}
+use Rattle.counts_pace.specs.declared.Counts.the-variants.{Are, Refused}
+use Rattle.counts_pace.specs.Counts.{spaceOf, cellsIn, temperaturesIn, countsOf}
+use Rattle.counts_pace.proofs.Cases.{misshapen, counts}
 use borrow.Author.Needs.{needs}
 use Rattle.counts_pace.proofs.counts_of.Statement.{statement}
 use Rattle.counts_pace.proofs.counts_of.Tie as tie
 
--- the bytes, and what was read of them at each place
-abbrev from : (c : tie.Else2) → tie.Start
-from c = c .before .before .before .before .before
+-- the characters are bytes
+fine : (c : tie.Else1) → faultOf (c .before .before .before .args .info .now) ≡ 0
+fine c = sym (c .before .fault-of .ensures) ∙ c .if1 .left
 
-abbrev bytes : (c : tie.Else2) → List ℕ
-bytes c = bytesIn (from c .args .info .now)
+fault-of-requires : tie.Need-fault-of-requires
+fault-of-requires c κs = search needs
 
-cells : (c : tie.After-byte-of3) → c .byte-of3 .result ≡ cellsIn (bytes (c .before))
-cells c = c .byte-of3 .ensures
-
-abbrev first : (c : tie.After-byte-of4) → tie.After-byte-of3
-first c = c .before .before .before .before
-
-temperatures : (c : tie.After-byte-of4) → c .byte-of4 .result ≡ temperaturesIn (from (first c .before) .args .wide) (bytes (first c .before))
-temperatures c =
-    let wide = from (first c .before) .args .wide in
-    c .byte-of4 .ensures
-    ∙ ap (λ (k : ℕ). getD (bytes (first c .before)) (k + 3) 0) (c .before .space .ensures .0 ∙ ap (spaceOf wide) (cells (first c)))
-
--- the lead byte and the address are right
-lead : (c : tie.Else2) → getD (bytes c) 0 0 ≡ 0
-lead c = sym (c .before .before .before .byte-of .ensures) ∙ c .before .before .if1 .left
-
-same : (c : tie.Else2) → getD (bytes c) 1 0 ≡ from c .args .address
-same c = sym (c .before .byte-of2 .ensures) ∙ c .if2 .left
-
--- the length that the counts require, as the code adds it up
-required : (c : tie.After-space2) → c .before .before .before .space .result + c .space2 .result + 4 + from (first (c .before .before) .before) .args .rest
-    ≡ spaceOf (from (first (c .before .before) .before) .args .wide) (cellsIn (bytes (first (c .before .before) .before))) + spaceOf (from (first (c .before .before) .before) .args .wide) (temperaturesIn (from (first (c .before .before) .before) .args .wide) (bytes (first (c .before .before) .before))) + 4 + from (first (c .before .before) .before) .args .rest
-required c =
-    let b = c .before .before in
-    let a = from (first b .before) .args in
-    ap₂ (λ (x y : ℕ). x + y + 4 + a .rest) (b .before .space .ensures .0 ∙ ap (spaceOf (a .wide)) (cells (first b))) (c .space2 .ensures .0 ∙ ap (spaceOf (a .wide)) (temperatures b))
-
-byte-of-requires : tie.Need-byte-of-requires
-byte-of-requires c κs = tt
+refuse-requires : tie.Need-refuse-requires
+refuse-requires c κs = search needs
 
 returns : tie.Need-returns
-returns c = other-lead _ _ _ _ (λ e. c .if1 .taken (c .before .byte-of .ensures ∙ e))
+returns c =
+    let f = c .before .before in
+    let a = f .before .before .args in
+    ap Refused (c .refuse .ensures ∙ ap refusedWith (f .fault-of .ensures))
+    ∙ checked-refused Refused (countsOf (a .wide) (a .rest) (a .address)) (a .info .now) (λ e. c .before .if1 .taken (f .fault-of .ensures ∙ e))
 
-byte-of-requires-2 : tie.Need-byte-of-requires-2
-byte-of-requires-2 c κs = tt
+has-shape-requires : tie.Need-has-shape-requires
+has-shape-requires c κs = search needs
+
+refuse-requires-2 : tie.Need-refuse-requires-2
+refuse-requires-2 c κs = search needs
 
 returns-2 : tie.Need-returns-2
 returns-2 c =
-    let one = c .before .before in
-    other-address _ _ _ _ (sym (one .before .byte-of .ensures) ∙ one .if1 .left) (λ e. c .if2 .taken (c .before .byte-of2 .ensures ∙ e))
+    let h = c .before .before in
+    let one = h .before in
+    let a = one .before .before .before .args in
+    ap Refused (c .refuse2 .ensures)
+    ∙ misshapen (a .wide) (a .rest) (a .address) (bytesIn (a .info .now)) (sym (h .has-shape .ensures) ∙ not-true _ (c .before .if2 .taken))
+    ∙ checked-bytes Refused (countsOf (a .wide) (a .rest) (a .address)) (a .info .now) (fine one)
 
-byte-of-requires-3 : tie.Need-byte-of-requires-3
-byte-of-requires-3 c κs = tt
-
-returns-3 : tie.Need-returns-3
-returns-3 c =
-    let b = c .before in
-    let a = from (b .before) .args in
-    no-cells (a .wide) (a .rest) (a .address) (bytes (b .before)) (lead (b .before)) (same (b .before)) (omega (arith, cells b))
-
-returns-4 : tie.Need-returns-4
-returns-4 c =
-    let b = c .before .before in
-    let a = from (b .before) .args in
-    many-cells (a .wide) (a .rest) (a .address) (bytes (b .before)) (lead (b .before)) (same (b .before)) (omega (arith, cells b)) (omega (arith, cells b))
+byte-of-requires : tie.Need-byte-of-requires
+byte-of-requires c κs = search needs
 
 space-requires : tie.Need-space-requires
-space-requires c κs = tt
+space-requires c κs = search needs
 
 add-byte-of : tie.Need-add-byte-of
 add-byte-of c = search needs
 
-byte-of-requires-4 : tie.Need-byte-of-requires-4
-byte-of-requires-4 c κs = tt
+byte-of-requires-2 : tie.Need-byte-of-requires-2
+byte-of-requires-2 c κs = search needs
 
-returns-5 : tie.Need-returns-5
-returns-5 c =
-    let b = first (c .before) in
-    let a = from (b .before) .args in
-    many-temperatures (a .wide) (a .rest) (a .address) (bytes (b .before)) (lead (b .before)) (same (b .before)) (omega (arith, cells b)) (omega (arith, cells b)) (omega (arith, temperatures (c .before)))
-
-space-requires-2 : tie.Need-space-requires-2
-space-requires-2 c κs = tt
-
-add-if6 : tie.Need-add-if6
-add-if6 c = search needs
-
-add-if6-2 : tie.Need-add-if6-2
-add-if6-2 c = search needs
-
-add-if6-3 : tie.Need-add-if6-3
-add-if6-3 c = search needs
-
-returns-6 : tie.Need-returns-6
-returns-6 c =
-    let t = c .before .before .before in
-    let b = first t in
-    let a = from (b .before) .args in
-    other-length (a .wide) (a .rest) (a .address) (bytes (b .before)) (lead (b .before)) (same (b .before)) (omega (arith, cells b)) (omega (arith, cells b)) (omega (arith, temperatures t))
-    (λ e. c .if6 .taken (sym (bytes-length (a .info .now)) ∙ e ∙ sym (required (c .before))))
-
-returns-7 : tie.Need-returns-7
-returns-7 c =
-    let t = c .before .before .before in
-    let b = first t in
-    let a = from (b .before) .args in
-    ap₂ Are (cells b) (temperatures t)
-    ∙ counts (a .wide) (a .rest) (a .address) (bytes (b .before)) (lead (b .before)) (same (b .before)) (omega (arith, cells b)) (omega (arith, cells b)) (omega (arith, temperatures t))
-    (bytes-length (a .info .now) ∙ c .if6 .left ∙ required (c .before))
+returns-3 : tie.Need-returns-3
+returns-3 c =
+    let s = c .before in
+    let b = s .before in
+    let two = b .before in
+    let h = two .before in
+    let one = h .before in
+    let a = one .before .before .before .args in
+    let d = bytesIn (a .info .now) in
+    let place : s .space .result + 3 ≡ spaceOf (a .wide) (cellsIn d) + 3 = ap (λ (n : ℕ). n + 3) (s .space .ensures .0 ∙ ap (spaceOf (a .wide)) (b .byte-of .ensures)) in
+    ap₂ Are (b .byte-of .ensures) (c .byte-of2 .ensures ∙ ap (λ (n : ℕ). getD d n 0) place)
+    ∙ counts (a .wide) (a .rest) (a .address) d (sym (h .has-shape .ensures) ∙ not-false _ (two .if2 .left))
+    ∙ checked-bytes Refused (countsOf (a .wide) (a .rest) (a .address)) (a .info .now) (fine one)
 
 pub counts-of-spec : {M : Type 1} → statement M
 counts-of-spec =
     tie.close
     (tie.spec
-    byte-of-requires
+    fault-of-requires
+    refuse-requires
     returns
-    byte-of-requires-2
+    has-shape-requires
+    refuse-requires-2
     returns-2
-    byte-of-requires-3
-    returns-3
-    returns-4
+    byte-of-requires
     space-requires
     add-byte-of
-    byte-of-requires-4
-    returns-5
-    space-requires-2
-    add-if6
-    add-if6-2
-    add-if6-3
-    returns-6
-    returns-7)
+    byte-of-requires-2
+    returns-3)

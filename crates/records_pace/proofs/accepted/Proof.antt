@@ -1,29 +1,23 @@
 -- `records_pace::accepted` meets its contract: the bytes are half as many as the characters.
 -- Assumes nothing.
-use mathlib.Core.Path.{sym, ap, _∙_}
+use mathlib.Core.Path.{sym, _∙_}
 use Rattle.characters_pace.proofs.Carried.{bytes-length}
-use Rattle.records_pace.specs.declared.Answer.the-variants.{Refused}
-use Rattle.records_pace.specs.Reply.{bare}
 use Rattle.records_pace.proofs.Cases.{not-accepted, accepted-is}
 use borrow.Author.Needs.{needs}
 use Rattle.records_pace.proofs.accepted.Statement.{statement}
 use Rattle.records_pace.proofs.accepted.Tie as tie
 
-refuse-requires : tie.Need-refuse-requires
-refuse-requires c κs = search needs
-
 plain-requires : tie.Need-plain-requires
 plain-requires c κs = search needs
 
 returns : tie.Need-returns
-returns c = c .plain .ensures ∙ ap (λ w. bare (Refused w)) (c .before .refuse .ensures) ∙ not-accepted _ (λ e. c .before .before .if1 .taken (sym (bytes-length _) ∙ e))
+returns c = c .plain .ensures ∙ accepted-is _ (bytes-length _ ∙ c .before .if1 .taken)
 
-plain-requires-2 : tie.Need-plain-requires-2
-plain-requires-2 c κs = search needs
+refused-requires : tie.Need-refused-requires
+refused-requires c κs = search needs
 
 returns-2 : tie.Need-returns-2
-returns-2 c = c .plain2 .ensures ∙ accepted-is _ (bytes-length _ ∙ c .before .if1 .left)
+returns-2 c = c .refused .ensures ∙ not-accepted _ (λ e. c .before .if1 .left (sym (bytes-length _) ∙ e))
 
 pub accepted-spec : {M : Type 1} → statement M
-accepted-spec =
-    tie.close (tie.spec refuse-requires plain-requires returns plain-requires-2 returns-2)
+accepted-spec = tie.close (tie.spec plain-requires returns refused-requires returns-2)

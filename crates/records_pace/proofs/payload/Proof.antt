@@ -1,13 +1,17 @@
 -- `records_pace::payload` meets its contract: by the command, each record by its own reader.
 -- Assumes nothing.
 use mathlib.Core.Path.{_≡_, sym, ap, _∙_}
-use Rattle.characters_pace.specs.Characters.{bytesIn}
+use Rattle.characters_pace.specs.Characters.{bytesIn, faultOf}
+use Rattle.characters_pace.proofs.Checked.{checked-bytes}
 use Rattle.rows_pace.specs.declared.Command.{Command}
-use Rattle.records_pace.specs.declared.Answer.the-variants.{Refused}
-use Rattle.records_pace.specs.Reply.{bare, ofAnalog, ofWarnings, ofSetting, payloadReply}
+use Rattle.records_pace.specs.Reply.{ofAnalog, ofWarnings, ofSetting, payloadReply}
 use borrow.Author.Needs.{needs}
 use Rattle.records_pace.proofs.payload.Statement.{statement}
 use Rattle.records_pace.proofs.payload.Tie as tie
+
+-- the characters are bytes
+fine : (c : tie.Start) → faultOf (c .args .info .now) ≡ 0
+fine c = c .pre
 
 -- the record that a known command calls for
 known : (c : tie.Start) (k : Command) → c .args .command ≡ k → payloadReply (c .args .address) k (bytesIn (c .args .info .now)) ≡ payloadReply (c .args .address) (c .args .command) (bytesIn (c .args .info .now))
@@ -61,17 +65,14 @@ accepted-requires c κs = search needs
 enum-told-6 : tie.Need-enum-told-6
 enum-told-6 c = search needs
 
-refuse-requires : tie.Need-refuse-requires
-refuse-requires c κs = search needs
-
-plain-requires : tie.Need-plain-requires
-plain-requires c κs = search needs
+refused-requires : tie.Need-refused-requires
+refused-requires c κs = search needs
 
 returns : tie.Need-returns
-returns c = let told = c .before .before in c .with-analog .ensures ∙ ap ofAnalog (c .before .read-analog .ensures) ∙ known (told .before .before .before) _ (told .enum-told .given .1)
+returns c = let told = c .before .before in c .with-analog .ensures ∙ ap ofAnalog (c .before .read-analog .ensures ∙ sym (checked-bytes _ _ _ (fine (told .before .before .before)))) ∙ known (told .before .before .before) _ (told .enum-told .given .1)
 
 returns-2 : tie.Need-returns-2
-returns-2 c = let told = c .before .before in c .with-warnings .ensures ∙ ap ofWarnings (c .before .read-warnings .ensures) ∙ known (told .before .before .before) _ (told .enum-told2 .given .1)
+returns-2 c = let told = c .before .before in c .with-warnings .ensures ∙ ap ofWarnings (c .before .read-warnings .ensures ∙ sym (checked-bytes _ _ _ (fine (told .before .before .before)))) ∙ known (told .before .before .before) _ (told .enum-told2 .given .1)
 
 returns-3 : tie.Need-returns-3
 returns-3 c = let told = c .before in c .hardware .ensures ∙ known (told .before .before .before) _ (told .enum-told3 .given .1)
@@ -80,13 +81,13 @@ returns-4 : tie.Need-returns-4
 returns-4 c = let told = c .before in c .serial .ensures ∙ known (told .before .before .before) _ (told .enum-told4 .given .1)
 
 returns-5 : tie.Need-returns-5
-returns-5 c = let told = c .before .before .before in c .with-setting .ensures ∙ ap ofSetting (c .before .read-setting .ensures) ∙ known (told .before .before .before) _ (told .command .given .1)
+returns-5 c = let told = c .before .before .before in c .with-setting .ensures ∙ ap ofSetting (c .before .read-setting .ensures ∙ sym (checked-bytes _ _ _ (fine (told .before .before .before)))) ∙ known (told .before .before .before) _ (told .command .given .1)
 
 returns-6 : tie.Need-returns-6
 returns-6 c = let told = c .before in c .accepted .ensures ∙ known (told .before .before .before) _ (told .enum-told5 .given .1)
 
 returns-7 : tie.Need-returns-7
-returns-7 c = let told = c .before .before in c .plain .ensures ∙ ap (λ w. bare (Refused w)) (c .before .refuse .ensures) ∙ known (told .before .before .before) _ (told .enum-told6 .given .1)
+returns-7 c = let told = c .before in c .refused .ensures ∙ known (told .before .before .before) _ (told .enum-told6 .given .1)
 
 pub payload-spec : {M : Type 1} → statement M
 payload-spec =
@@ -108,8 +109,7 @@ payload-spec =
     enum-told-5
     accepted-requires
     enum-told-6
-    refuse-requires
-    plain-requires
+    refused-requires
     returns
     returns-2
     returns-3

@@ -1,15 +1,14 @@
 -- `records_pace::read_reply` meets its contract: the frame by its reader's contract, the part that is handed on is INFO.
 -- Assumes nothing.
 use Prim.Native.Nat.{ℕ}
-use mathlib.Core.Path.{_≡_, sym, ap, ap₂, _∙_}
+use mathlib.Core.Path.{_≡_, sym, ap₂, _∙_}
 use mathlib.Core.List.{List}
 use native.Mathlib.Omega.{arith}
 use Rattle.frames_pace.specs.declared.Frame.the-variants.{Whole}
 use Rattle.frames_pace.specs.Frame.{frameOf}
-use Rattle.frames_pace.proofs.Whole.{Said, whole-says, info-lent}
+use Rattle.frames_pace.proofs.Whole.{Said, whole-says, info-lent, info-hex}
 use Rattle.rows_pace.specs.declared.Command.{Command}
-use Rattle.records_pace.specs.declared.Answer.the-variants.{Refused}
-use Rattle.records_pace.specs.Reply.{bare, answeredOf}
+use Rattle.records_pace.specs.Reply.{answeredOf}
 use Rattle.records_pace.proofs.Cases.{no-frame, other-address, same-address}
 use borrow.Author.Needs.{needs}
 use Rattle.records_pace.proofs.read_reply.Statement.{statement}
@@ -40,16 +39,13 @@ plain-requires c κs = search needs
 enum-known-f-2 : tie.Need-enum-known-f-2
 enum-known-f-2 c = search needs
 
-refuse-requires : tie.Need-refuse-requires
-refuse-requires c κs = search needs
-
-plain-requires-2 : tie.Need-plain-requires-2
-plain-requires-2 c κs = search needs
+refused-requires : tie.Need-refused-requires
+refused-requires c κs = search needs
 
 returns : tie.Need-returns
 returns c =
-    let k = c .before .before .before in
-    c .plain2 .ensures ∙ ap (λ w. bare (Refused w)) (c .before .refuse .ensures) ∙ other-address _ _ _ _ _ _ _ (is-frame k) (c .before .before .if1 .taken)
+    let k = c .before .before in
+    c .refused .ensures ∙ other-address _ _ _ _ _ _ _ (is-frame k) (c .before .if1 .taken)
 
 command-of-requires : tie.Need-command-of-requires
 command-of-requires c κs = search needs
@@ -67,7 +63,7 @@ part-answered-end : tie.Need-part-answered-end
 part-answered-end c = let d = said (c .before .before) in omega arith
 
 answered-requires : tie.Need-answered-requires
-answered-requires c κs = search needs
+answered-requires c κs = let k = c .before .before .before in rw (info-lent _ _ _ _ _ (said k)) (info-hex _ _ _ _ _ (said k))
 
 returns-2 : tie.Need-returns-2
 returns-2 c = c .plain .ensures ∙ no-frame _ _ _ _ (sym (c .before .before .before .before .read-frame .ensures) ∙ c .before .before .f .given .1)
@@ -89,8 +85,7 @@ read-reply-spec =
     enum-known-f
     plain-requires
     enum-known-f-2
-    refuse-requires
-    plain-requires-2
+    refused-requires
     returns
     command-of-requires
     add-answered

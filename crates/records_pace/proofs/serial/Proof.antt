@@ -1,9 +1,7 @@
 -- `records_pace::serial` meets its contract: the bytes are half as many as the characters.
 -- Assumes nothing.
-use mathlib.Core.Path.{sym, ap, _∙_}
+use mathlib.Core.Path.{sym, _∙_}
 use Rattle.characters_pace.proofs.Carried.{bytes-length}
-use Rattle.records_pace.specs.declared.Answer.the-variants.{Refused}
-use Rattle.records_pace.specs.Reply.{bare}
 use Rattle.records_pace.proofs.Cases.{no-serial, serial-20, serial-40}
 use borrow.Author.Needs.{needs}
 use Rattle.records_pace.proofs.serial.Statement.{statement}
@@ -15,11 +13,8 @@ text-requires c κs = search needs
 text-requires-2 : tie.Need-text-requires-2
 text-requires-2 c κs = search needs
 
-refuse-requires : tie.Need-refuse-requires
-refuse-requires c κs = search needs
-
-plain-requires : tie.Need-plain-requires
-plain-requires c κs = search needs
+refused-requires : tie.Need-refused-requires
+refused-requires c κs = search needs
 
 returns : tie.Need-returns
 returns c = c .text .ensures ∙ serial-20 _ (bytes-length _ ∙ c .before .match .keys1)
@@ -29,8 +24,8 @@ returns-2 c = c .text2 .ensures ∙ serial-40 _ (bytes-length _ ∙ c .before .m
 
 returns-3 : tie.Need-returns-3
 returns-3 c =
-    let no = c .before .before .match .rest in
-    c .plain .ensures ∙ ap (λ w. bare (Refused w)) (c .before .refuse .ensures) ∙ no-serial _ (λ e. no .0 .1 (sym (bytes-length _) ∙ e)) (λ e. no .1 (sym (bytes-length _) ∙ e))
+    let no = c .before .match .rest in
+    c .refused .ensures ∙ no-serial _ (λ e. no .0 .1 (sym (bytes-length _) ∙ e)) (λ e. no .1 (sym (bytes-length _) ∙ e))
 
 pub serial-spec : {M : Type 1} → statement M
 serial-spec =
@@ -38,8 +33,7 @@ serial-spec =
     (tie.spec
     text-requires
     text-requires-2
-    refuse-requires
-    plain-requires
+    refused-requires
     returns
     returns-2
     returns-3)

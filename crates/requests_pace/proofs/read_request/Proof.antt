@@ -5,7 +5,7 @@ use mathlib.Core.Path.{_≡_, sym, ap, _∙_}
 use native.Mathlib.Omega.{arith}
 use Rattle.frames_pace.specs.declared.Frame.the-variants.{Whole}
 use Rattle.frames_pace.specs.Frame.{frameOf}
-use Rattle.frames_pace.proofs.Whole.{Said, whole-says, info-lent}
+use Rattle.frames_pace.proofs.Whole.{Said, whole-says, info-lent, info-hex}
 use Rattle.requests_pace.specs.Parsed.{wholeOf}
 use Rattle.requests_pace.proofs.Reading.{no-frame, a-frame}
 use borrow.Author.Needs.{needs}
@@ -47,7 +47,7 @@ part-whole-end : tie.Need-part-whole-end
 part-whole-end c = let d = said c in omega arith
 
 whole-requires : tie.Need-whole-requires
-whole-requires c κs = search needs
+whole-requires c κs = let k = c .before in rw (info-lent _ _ _ _ _ (said k)) (info-hex _ _ _ _ _ (said k))
 
 returns : tie.Need-returns
 returns c = no-frame _ _ (sym (c .before .before .before .read-frame .ensures) ∙ c .before .f .given .1)

@@ -6,7 +6,7 @@ use Rattle.requests_pace.specs.declared.Kind.{Kind}
 use Rattle.requests_pace.specs.declared.Parsed.the-variants.{Refused}
 use Rattle.requests_pace.specs.Request.{kindOf}
 use Rattle.requests_pace.specs.Parsed.{ofFound}
-use Rattle.requests_pace.proofs.Reading.{unlisted, other-size, other-byte, addressed, not-empty, empty, odd, carried}
+use Rattle.requests_pace.proofs.Reading.{unlisted, other-size, other-byte, addressed, not-empty, empty, by-setting}
 use borrow.Author.Needs.{needs}
 use Rattle.requests_pace.proofs.whole.Statement.{statement}
 use Rattle.requests_pace.proofs.whole.Tie as tie
@@ -55,12 +55,6 @@ returns-3 c = let told = c .before .before in ap Refused (c .refuse3 .ensures) �
 enum-known-k : tie.Need-enum-known-k
 enum-known-k c = search needs
 
-refuse-requires-4 : tie.Need-refuse-requires-4
-refuse-requires-4 c κs = search needs
-
-returns-4 : tie.Need-returns-4
-returns-4 c = let told = c .before .before .before in ap Refused (c .refuse4 .ensures) ∙ odd _ _ _ _ (known (told .before .before) _ (told .k .given .1)) (c .before .if4 .taken)
-
 parse-setting-requires : tie.Need-parse-setting-requires
 parse-setting-requires c κs = search needs
 
@@ -70,28 +64,27 @@ with-values-requires c κs = search needs
 enum-told-3 : tie.Need-enum-told-3
 enum-told-3 c = search needs
 
-refuse-requires-5 : tie.Need-refuse-requires-5
-refuse-requires-5 c κs = search needs
+refuse-requires-4 : tie.Need-refuse-requires-4
+refuse-requires-4 c κs = search needs
 
-returns-5 : tie.Need-returns-5
-returns-5 c =
+returns-4 : tie.Need-returns-4
+returns-4 c =
     let b = c .before in
     let one = b .before in
     let told = one .before in
     addressed _ _ _ (known (told .before .before) _ (told .enum-told .given .1)) (one .if1 .left) (sym (b .byte-of .ensures) ∙ c .if2 .left)
 
+returns-5 : tie.Need-returns-5
+returns-5 c = let told = c .before in empty _ _ _ (known (told .before .before) _ (told .enum-told2 .given .1)) (c .if3 .left)
+
 returns-6 : tie.Need-returns-6
-returns-6 c = let told = c .before in empty _ _ _ (known (told .before .before) _ (told .enum-told2 .given .1)) (c .if3 .left)
+returns-6 c =
+    let told = c .before .before .before in
+    let start = told .before .before .before .before .before in
+    c .with-values .ensures ∙ ap (ofFound (start .args .address)) (c .before .parse-setting .ensures) ∙ by-setting _ _ _ _ (known (told .before .before) _ (told .k .given .1)) (start .pre)
 
 returns-7 : tie.Need-returns-7
-returns-7 c =
-    let four = c .before .before in
-    let told = four .before .before in
-    let a = told .before .before .before .before .before .args in
-    c .with-values .ensures ∙ ap (ofFound (a .address)) (c .before .parse-setting .ensures) ∙ carried _ _ _ _ (known (told .before .before) _ (told .k .given .1)) (four .if4 .left)
-
-returns-8 : tie.Need-returns-8
-returns-8 c = let told = c .before in ap Refused (c .refuse5 .ensures) ∙ unlisted _ _ _ (known (told .before .before) _ (told .enum-told3 .given .1))
+returns-7 c = let told = c .before in ap Refused (c .refuse4 .ensures) ∙ unlisted _ _ _ (known (told .before .before) _ (told .enum-told3 .given .1))
 
 pub whole-spec : {M : Type 1} → statement M
 whole-spec =
@@ -109,13 +102,11 @@ whole-spec =
     refuse-requires-3
     returns-3
     enum-known-k
-    refuse-requires-4
-    returns-4
     parse-setting-requires
     with-values-requires
     enum-told-3
-    refuse-requires-5
+    refuse-requires-4
+    returns-4
     returns-5
     returns-6
-    returns-7
-    returns-8)
+    returns-7)

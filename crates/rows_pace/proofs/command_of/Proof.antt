@@ -1,10 +1,14 @@
--- `rows_pace::command_of` meets its contract: each code computes; the rest is none of the codes.
+-- `rows_pace::command_of` meets its contract: each code of its own computes; the rest is none of them, and goes by the rows.
 -- Assumes nothing.
-use borrow.Author.Tests.{ne-eqb}
-use Rattle.rows_pace.specs.Rows.{settings, rowOf}
-use Rattle.rows_pace.specs.Commands.{bySetting, commandOf}
+use mathlib.Core.Path.{_∙_}
+use borrow.Author.Needs.{needs}
+use Rattle.rows_pace.specs.Commands.{commandOf}
+use Rattle.rows_pace.proofs.Commands.{by-rows}
 use Rattle.rows_pace.proofs.command_of.Statement.{statement}
 use Rattle.rows_pace.proofs.command_of.Tie as tie
+
+by-setting-requires : tie.Need-by-setting-requires
+by-setting-requires c κs = search needs
 
 returns : tie.Need-returns
 unfolding commandOf
@@ -23,38 +27,8 @@ unfolding commandOf
 returns-4 c = rw (c .match .keys4)
 
 returns-5 : tie.Need-returns-5
-unfolding commandOf bySetting settings rowOf
-returns-5 c = rw (c .match .keys5)
-
-returns-6 : tie.Need-returns-6
-unfolding commandOf bySetting settings rowOf
-returns-6 c = rw (c .match .keys6)
-
-returns-7 : tie.Need-returns-7
-unfolding commandOf bySetting settings rowOf
-returns-7 c = rw (c .match .keys7)
-
-returns-8 : tie.Need-returns-8
-unfolding commandOf bySetting settings rowOf
-returns-8 c = rw (c .match .keys8)
-
-returns-9 : tie.Need-returns-9
-unfolding commandOf bySetting settings rowOf
-returns-9 c =
-    let no = c .match .rest in
-    let four = no .0 .0 .0 .0 in
-    rw (ne-eqb _ _ (four .0 .0 .0 .1), ne-eqb _ _ (four .0 .0 .1), ne-eqb _ _ (four .0 .1), ne-eqb _ _ (four .1), ne-eqb _ _ (no .0 .0 .0 .1), ne-eqb _ _ (no .0 .0 .1), ne-eqb _ _ (no .0 .1), ne-eqb _ _ (no .1))
+returns-5 c = let no = c .before .match .rest in c .by-setting .ensures ∙ by-rows _ (no .0 .0 .0 .1) (no .0 .0 .1) (no .0 .1) (no .1)
 
 pub command-of-spec : {M : Type 1} → statement M
 command-of-spec =
-    tie.close
-    (tie.spec
-    returns
-    returns-2
-    returns-3
-    returns-4
-    returns-5
-    returns-6
-    returns-7
-    returns-8
-    returns-9)
+    tie.close (tie.spec by-setting-requires returns returns-2 returns-3 returns-4 returns-5)

@@ -1,151 +1,35 @@
--- `settings_pace::read_setting` meets its contract: each way out is the case of `replyOf` that its tests name.
+-- `settings_pace::read_setting` meets its contract: the characters first, then the bytes.
 -- Assumes nothing.
-use lib.ListN.{length}
-use Prim.Native.Nat.{_-_}
-use borrow.Rule.Slice.PartMut.{putMid}
-use Rattle.settings_pace.proofs.Taken.{places, filled-length}
-use Prim.Native.Nat.{_≤_}
-use Rattle.characters_pace.specs.Characters.{bytesIn}
-use mathlib.Core.Path.{_≡_, ap, _∙_}
-use native.Mathlib.Omega.{arith}
-use borrow.Author.Tests.{not-true, not-false}
-use Rattle.settings_pace.specs.declared.Found.the-variants.{Set, Refused}
-use Rattle.settings_pace.proofs.Taken.{setting-few, misread, unread, read}
+use mathlib.Core.Path.{sym, ap, _∙_}
+use Rattle.refusals.specs.Refused.{refusedWith}
+use Rattle.characters_pace.proofs.Checked.{checked-refused, checked-bytes}
+use Rattle.settings_pace.specs.declared.Found.the-variants.{Refused}
+use Rattle.settings_pace.specs.Reading.{replyOf}
 use borrow.Author.Needs.{needs}
 use Rattle.settings_pace.proofs.read_setting.Statement.{statement}
 use Rattle.settings_pace.proofs.read_setting.Tie as tie
 
--- the words, once they are read, fill the front of the array
-abbrev wide : (c : tie.After-amounts2) → length (putMid 0 (c .before .before .before .before .before .row-of .result .amounts - 0) places (c .before .words-of .last .1 .1 .0)) ≡ 3
-wide c =
-    let w = c .before in
-    let h = w .before .before .before in
-    let a = h .before .before .before .args in
-    filled-length (a .setting) (h .before .row-of .result) (h .before .row-of .ensures) (bytesIn (a .info .now)) (h .has-shape .result) (h .has-shape .ensures) (not-false _ (w .before .before .if1 .left)) _ (w .words-of .ensures)
-
--- the row is the setting's, and the bytes are those of INFO
-abbrev small : (c : tie.After-row-of) → c .row-of .result .amounts ≤ 3
-small c = setting-few (c .before .before .args .setting) (c .row-of .result) (c .row-of .ensures) (bytesIn (c .before .before .args .info .now))
-
-row-of-requires : tie.Need-row-of-requires
-row-of-requires c κs = search needs
-
-has-shape-requires : tie.Need-has-shape-requires
-has-shape-requires c κs = small c
+fault-of-requires : tie.Need-fault-of-requires
+fault-of-requires c κs = search needs
 
 refuse-requires : tie.Need-refuse-requires
 refuse-requires c κs = search needs
 
 returns : tie.Need-returns
 returns c =
-    let h = c .before .before in
-    let r = h .before in
-    let a = r .before .before .args in
-    ap Refused (c .refuse .ensures)
-    ∙ misread (a .setting) (r .row-of .result) (r .row-of .ensures) (bytesIn (a .info .now)) (h .has-shape .result) (h .has-shape .ensures) (not-true _ (c .before .if1 .taken))
+    let f = c .before .before in
+    let a = f .before .before .args in
+    ap Refused (c .refuse .ensures ∙ ap refusedWith (f .fault-of .ensures))
+    ∙ checked-refused Refused (replyOf (a .setting)) (a .info .now) (λ e. c .before .if1 .taken (f .fault-of .ensures ∙ e))
 
-sub-words-of : tie.Need-sub-words-of
-sub-words-of c = search needs
-
-part-amounts-start : tie.Need-part-amounts-start
-part-amounts-start c = search needs
-
-part-amounts-end : tie.Need-part-amounts-end
-part-amounts-end c = omega (arith, small (c .before .before))
-
-words-of-requires : tie.Need-words-of-requires
-words-of-requires c κs = search needs
-
-sub-all-readable : tie.Need-sub-all-readable
-sub-all-readable c = search needs
-
-part-all-readable-start : tie.Need-part-all-readable-start
-part-all-readable-start c = search needs
-
-part-all-readable-end : tie.Need-part-all-readable-end
-part-all-readable-end c = omega (arith, small (c .before .before .before .before .before .before), wide (c .before))
-
-all-readable-requires : tie.Need-all-readable-requires
-all-readable-requires c κs = search needs
-
-refuse-requires-2 : tie.Need-refuse-requires-2
-refuse-requires-2 c κs = search needs
+in-reply-requires : tie.Need-in-reply-requires
+in-reply-requires c κs = search needs
 
 returns-2 : tie.Need-returns-2
 returns-2 c =
-    let test = c .before .before in
-    let w = test .before .before .before .before in
-    let one = w .before .before in
-    let h = one .before in
-    let r = h .before in
-    let a = r .before .before .args in
-    ap Refused (c .refuse2 .ensures)
-    ∙ unread (a .setting) (r .row-of .result) (r .row-of .ensures) (bytesIn (a .info .now)) (h .has-shape .result) (h .has-shape .ensures) (not-false _ (one .if1 .left))
-    _ (w .words-of .ensures) (test .all-readable .result) (test .all-readable .ensures) (not-true _ (c .before .if2 .taken))
-
-sub-turn : tie.Need-sub-turn
-sub-turn c = search needs
-
-part-amounts-start-2 : tie.Need-part-amounts-start-2
-part-amounts-start-2 c = search needs
-
-part-amounts-end-2 : tie.Need-part-amounts-end-2
-part-amounts-end-2 c = let filled = c .before .before .before .before in omega (arith, small (filled .before .before .before .before .before), wide filled)
-
-turn-requires : tie.Need-turn-requires
-turn-requires c κs = search needs
-
-mul-byte-of : tie.Need-mul-byte-of
-mul-byte-of c = omega (arith, small (c .before .before .before .before .before .before .before .before .before .before .before .before))
-
-add-byte-of : tie.Need-add-byte-of
-add-byte-of c = omega (arith, small (c .before .before .before .before .before .before .before .before .before .before .before .before))
-
-byte-of-requires : tie.Need-byte-of-requires
-byte-of-requires c κs = search needs
-
-values-of-requires : tie.Need-values-of-requires
-values-of-requires c κs = search needs
-
-returns-3 : tie.Need-returns-3
-returns-3 c =
-    let b = c .before in
-    let turned = b .before .before in
-    let two = turned .before .before in
-    let test = two .before in
-    let w = test .before .before .before .before in
-    let one = w .before .before in
-    let h = one .before in
-    let r = h .before in
-    let a = r .before .before .args in
-    ap Set (c .values-of .ensures)
-    ∙ read (a .setting) (r .row-of .result) (r .row-of .ensures) (bytesIn (a .info .now)) (h .has-shape .result) (h .has-shape .ensures) (not-false _ (one .if1 .left))
-    _ (w .words-of .ensures) (test .all-readable .result) (test .all-readable .ensures) (not-false _ (two .if2 .left)) _ (b .byte-of .result) (turned .turn .ensures) (b .byte-of .ensures)
+    let f = c .before .before in
+    let a = f .before .before .args in
+    c .in-reply .ensures ∙ checked-bytes Refused (replyOf (a .setting)) (a .info .now) (sym (f .fault-of .ensures) ∙ c .before .if1 .left)
 
 pub read-setting-spec : {M : Type 1} → statement M
-read-setting-spec =
-    tie.close
-    (tie.spec
-    row-of-requires
-    has-shape-requires
-    refuse-requires
-    returns
-    sub-words-of
-    part-amounts-start
-    part-amounts-end
-    words-of-requires
-    sub-all-readable
-    part-all-readable-start
-    part-all-readable-end
-    all-readable-requires
-    refuse-requires-2
-    returns-2
-    sub-turn
-    part-amounts-start-2
-    part-amounts-end-2
-    turn-requires
-    mul-byte-of
-    add-byte-of
-    byte-of-requires
-    values-of-requires
-    returns-3)
+read-setting-spec = tie.close (tie.spec fault-of-requires refuse-requires returns in-reply-requires returns-2)
