@@ -8,19 +8,22 @@ ghost use mathlib.Core.Path.{_≡_};
 ghost use Prim.Native.Nat.{_+_, _*_, _≤_};
 ghost use lib.IntN.{pos};
 ghost use lib.ListN.{length, getD, replicate};
+ghost use Rattle.exports_parts.specs.Parts.{fitCode};
 ghost use Rattle.monitor3_tongzhu.specs.Values.{numberAt, temperatureAt, placesOf};
 ghost use Rattle.monitor3_tongzhu.specs.Layout.{listsAt};
 ghost use Rattle.lists_tongzhu.specs.Lists.{placedLists, listed};
 
-// Puts the lists of a monitor 3 with this payload into the row, behind the places of its numbers; where the row has fewer than 80 places,
-// nothing.
-pub fn put_lists(p: &[u8], row: &mut [i32])
-    ensures { λ _. ⌜ now (row .exit) ≡ listed (listsAt (now (p .entry)) 0) (now (row .entry)) ⌝ }
+// Puts the lists of a monitor 3 with this payload into the row, behind the places of its numbers, and answers 0; where the row has fewer than 80
+// places it stays as it was, and 11 is answered.
+pub fn put_lists(p: &[u8], row: &mut [i32]) -> u8
+    ensures answer { λ r. ⌜ r ≡ fitCode 12 68 (length (now (row .entry))) ⌝ }
+    ensures filled { λ r. ⌜ now (row .exit) ≡ listed (listsAt (now (p .entry)) 0) (now (row .entry)) ⌝ }
 {
     if row.len() < 80 {
-        return;
+        return refusals::ROOM;
     }
     fill(p, row);
+    0
 }
 
 fn fill(p: &[u8], row: &mut [i32])

@@ -45,7 +45,7 @@ returns-2 c =
     let a = c .before .before .before .before .before .before .before .before .before .before .before .args in
     let told = parts-told 2 (partsOf (a .m) (listsAt (a .p .now) 0)) sizes (refl, lists-sized (a .p .now)) (a .row .now) (search needs) in (
       c .coded .ensures ∙ told .0,
-      c .before .before .put-lists .ensures ∙ sym (listed-all (listsAt (a .p .now) 0) _ (search needs))
+      c .before .before .put-lists .ensures .1 ∙ sym (listed-all (listsAt (a .p .now) 0) _ (search needs))
           ∙ ap (placedLists (listsAt (a .p .now) 0)) (c .before .before .before .before .before .put-i32 .ensures .1 ∙ ap (λ ns. placed 0 ns (a .row .now)) (c .before .before .before .before .before .before .before .before .monitor3-numbers .ensures))
           ∙ told .1,
     )
