@@ -11,15 +11,16 @@ ghost use mathlib.Core.Path.{_≡_};
 ghost use lib.ListN.{length};
 ghost use Rattle.exports_rows.specs.Told.{codeOf, rowAfter};
 ghost use Rattle.exports_rows.specs.Writing.{writtenCode};
-ghost use Rattle.requests_pace.specs.Request.{writtenOf, roomAfter};
+ghost use Rattle.refusals.specs.Writing.{roomAfter};
+ghost use Rattle.requests_pace.specs.Request.{frameFor, sentAs};
 ghost use Rattle.requests_pace.specs.Parsed.{parsedOf};
 ghost use Rattle.exports_requests_pace.specs.Requests.{overvoltage, discharge, setTold, requestTold, toldRequest};
 
 // Writes the PACE request with this command, one that carries no values.
 #[no_mangle]
 pub extern "C" fn tracksaffron_pace_ask(address: u8, command: u8, out: &mut [u8]) -> u64
-    ensures answer { λ r. ⌜ r ≡ writtenCode (writtenOf (Request.Ask address command) (now (out .entry))) ⌝ }
-    ensures room { λ r. ⌜ now (out .exit) ≡ roomAfter (writtenOf (Request.Ask address command) (now (out .entry))) (Request.Ask address command) (now (out .entry)) ⌝ }
+    ensures answer { λ r. ⌜ r ≡ writtenCode (sentAs (Request.Ask address command) (length (now (out .entry)))) ⌝ }
+    ensures room { λ r. ⌜ now (out .exit) ≡ roomAfter (sentAs (Request.Ask address command) (length (now (out .entry)))) (frameFor (Request.Ask address command)) (now (out .entry)) ⌝ }
 {
     written_number(write_request(Request::Ask { address, command }, out))
 }
@@ -34,8 +35,8 @@ pub extern "C" fn tracksaffron_pace_cell_overvoltage(
     delay: u8,
     out: &mut [u8],
 ) -> u64
-    ensures answer { λ r. ⌜ r ≡ writtenCode (writtenOf (overvoltage address alarm protect release delay) (now (out .entry))) ⌝ }
-    ensures room { λ r. ⌜ now (out .exit) ≡ roomAfter (writtenOf (overvoltage address alarm protect release delay) (now (out .entry))) (overvoltage address alarm protect release delay) (now (out .entry)) ⌝ }
+    ensures answer { λ r. ⌜ r ≡ writtenCode (sentAs (overvoltage address alarm protect release delay) (length (now (out .entry)))) ⌝ }
+    ensures room { λ r. ⌜ now (out .exit) ≡ roomAfter (sentAs (overvoltage address alarm protect release delay) (length (now (out .entry)))) (frameFor (overvoltage address alarm protect release delay)) (now (out .entry)) ⌝ }
 {
     let values = Values::CellOvervoltage {
         alarm_mv: alarm,
@@ -55,8 +56,8 @@ pub extern "C" fn tracksaffron_pace_slow_discharge(
     delay: u8,
     out: &mut [u8],
 ) -> u64
-    ensures answer { λ r. ⌜ r ≡ writtenCode (writtenOf (discharge address alarm protect delay) (now (out .entry))) ⌝ }
-    ensures room { λ r. ⌜ now (out .exit) ≡ roomAfter (writtenOf (discharge address alarm protect delay) (now (out .entry))) (discharge address alarm protect delay) (now (out .entry)) ⌝ }
+    ensures answer { λ r. ⌜ r ≡ writtenCode (sentAs (discharge address alarm protect delay) (length (now (out .entry)))) ⌝ }
+    ensures room { λ r. ⌜ now (out .exit) ≡ roomAfter (sentAs (discharge address alarm protect delay) (length (now (out .entry)))) (frameFor (discharge address alarm protect delay)) (now (out .entry)) ⌝ }
 {
     let values = Values::SlowDischarge {
         alarm_a: alarm,

@@ -9,7 +9,8 @@ use requests_read_pathfinder::Parsed;
 use requests_read_pathfinder::read_request;
 ghost use mathlib.Core.Path.{_≡_};
 ghost use lib.ListN.{length};
-ghost use Rattle.requests_pathfinder.specs.Requests.{sentAs, roomAfter};
+ghost use Rattle.refusals.specs.Writing.{roomAfter};
+ghost use Rattle.requests_pathfinder.specs.Requests.{frameFor, sentAs};
 ghost use Rattle.requests_read_pathfinder.specs.Reading.{requestOf};
 ghost use Rattle.exports_rows.specs.Told.{codeOf, rowAfter};
 ghost use Rattle.exports_rows.specs.Writing.{writtenCode};
@@ -19,7 +20,7 @@ ghost use Rattle.exports_requests_pathfinder.specs.Codes.{toldFields, to
 #[no_mangle]
 pub extern "C" fn tracksaffron_pf_ask(opcode: u8, out: &mut [u8]) -> u64
     ensures answer { λ r. ⌜ r ≡ writtenCode (sentAs (Request.Ask opcode) (length (now (out .entry)))) ⌝ }
-    ensures room { λ r. ⌜ now (out .exit) ≡ roomAfter (sentAs (Request.Ask opcode) (length (now (out .entry)))) (Request.Ask opcode) (now (out .entry)) ⌝ }
+    ensures room { λ r. ⌜ now (out .exit) ≡ roomAfter (sentAs (Request.Ask opcode) (length (now (out .entry)))) (frameFor (Request.Ask opcode)) (now (out .entry)) ⌝ }
 {
     written_number(write_ask(opcode, out))
 }
@@ -28,7 +29,7 @@ pub extern "C" fn tracksaffron_pf_ask(opcode: u8, out: &mut [u8]) -> u64
 #[no_mangle]
 pub extern "C" fn tracksaffron_pf_write(register: u8, value: i32, out: &mut [u8]) -> u64
     ensures answer { λ r. ⌜ r ≡ writtenCode (sentAs (Request.Write register value) (length (now (out .entry)))) ⌝ }
-    ensures room { λ r. ⌜ now (out .exit) ≡ roomAfter (sentAs (Request.Write register value) (length (now (out .entry)))) (Request.Write register value) (now (out .entry)) ⌝ }
+    ensures room { λ r. ⌜ now (out .exit) ≡ roomAfter (sentAs (Request.Write register value) (length (now (out .entry)))) (frameFor (Request.Write register value)) (now (out .entry)) ⌝ }
 {
     written_number(write_set(register, value, out))
 }

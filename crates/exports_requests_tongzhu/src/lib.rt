@@ -12,15 +12,16 @@ ghost use mathlib.Core.Path.{_≡_};
 ghost use lib.ListN.{length};
 ghost use Rattle.exports_rows.specs.Told.{codeOf, rowAfter};
 ghost use Rattle.exports_rows.specs.Writing.{writtenCode};
-ghost use Rattle.requests_tongzhu.specs.Requests.{wireOf, writtenOf, roomAfter};
+ghost use Rattle.refusals.specs.Writing.{roomAfter};
+ghost use Rattle.requests_tongzhu.specs.Requests.{frameFor, sentAs};
 ghost use Rattle.requests_read_tongzhu.specs.Reading.{parsedOf};
 ghost use Rattle.exports_requests_tongzhu.specs.Requests.{timeOf, requestTold, toldRequest};
 
 // Writes the request that asks for what a Tongzhu function reads.
 #[no_mangle]
 pub extern "C" fn tracksaffron_tz_ask(function: u8, out: &mut [u8]) -> u64
-    ensures answer { λ r. ⌜ r ≡ writtenCode (writtenOf (wireOf (Request.Ask function)) (length (now (out .entry)))) ⌝ }
-    ensures room { λ r. ⌜ now (out .exit) ≡ roomAfter (wireOf (Request.Ask function)) (now (out .entry)) ⌝ }
+    ensures answer { λ r. ⌜ r ≡ writtenCode (sentAs (Request.Ask function) (length (now (out .entry)))) ⌝ }
+    ensures room { λ r. ⌜ now (out .exit) ≡ roomAfter (sentAs (Request.Ask function) (length (now (out .entry)))) (frameFor (Request.Ask function)) (now (out .entry)) ⌝ }
 {
     written_number(write_request(Request::Ask(function), out))
 }
@@ -36,8 +37,8 @@ pub extern "C" fn tracksaffron_tz_set_time(
     second: u8,
     out: &mut [u8],
 ) -> u64
-    ensures answer { λ r. ⌜ r ≡ writtenCode (writtenOf (wireOf (Request.SetTime (timeOf year month day hour minute second))) (length (now (out .entry)))) ⌝ }
-    ensures room { λ r. ⌜ now (out .exit) ≡ roomAfter (wireOf (Request.SetTime (timeOf year month day hour minute second))) (now (out .entry)) ⌝ }
+    ensures answer { λ r. ⌜ r ≡ writtenCode (sentAs (Request.SetTime (timeOf year month day hour minute second)) (length (now (out .entry)))) ⌝ }
+    ensures room { λ r. ⌜ now (out .exit) ≡ roomAfter (sentAs (Request.SetTime (timeOf year month day hour minute second)) (length (now (out .entry)))) (frameFor (Request.SetTime (timeOf year month day hour minute second))) (now (out .entry)) ⌝ }
 {
     let t = Time {
         year,

@@ -1,26 +1,26 @@
 -- What the writer's stores and lent parts leave in the room: each is one more thing at the end of the front, over what was there.
 -- Assumes nothing.
 use mathlib.Core.Path.{_≡_, refl, sym, ap, ap₂, _∙_}
-use mathlib.Core.List.{List, [], _∷_, _++_, append-assoc}
+use mathlib.Core.List.{List, [], _∷_, _++_, append-assoc, append-nil}
 use Prim.Native.Nat.{ℕ, _+_, _-_, _*_, _<_, _≤_}
 use native.Mathlib.Omega.{arith}
-use borrow.Author.Tests.{lt-ltb, le-ltb, ltb-false}
+use borrow.Author.Tests.{lt-ltb}
 use borrow.Rule.Slice.PartMut.{putMid}
-use lib.ListN.{length, getD, take, drop, set, length-append, length-drop, take-append-drop}
-use lib.Seq.{take-at, drop-drop, drop-append-add, length-take-le}
-use lib.Dec.{ltb}
+use lib.ListN.{length, getD, take, drop, set, length-append, length-drop, drop-of-length-le}
+use lib.Seq.{take-at, drop-drop, drop-append-add}
 use Rattle.laws.proofs.Filling.{one-more, part-more, part-length}
-use Rattle.laws.proofs.Ladders.{past}
 use Rattle.sums.specs.Sums.{total, closing}
 use Rattle.lengths_pace.specs.declared.Length.the-variants.{Is, Wrong}
 use Rattle.lengths_pace.specs.Lengths.{wordOf, lengthWord}
 use Rattle.numbers.specs.declared.Order.the-variants.{HighFirst}
 use Rattle.numbers.specs.Bytes.{bytesOf}
-use Rattle.characters_pace.specs.Characters.{hexed, hexAfter}
-use Rattle.refusals.specs.declared.Refusal.{Refusal}
-use Rattle.refusals.specs.declared.Written.the-variants.{Frame, Refused}
-use Rattle.frames_written_pace.specs.Written.{headBytes, bodyChars, endChars, frameChars, writtenOf, sealed}
-use Rattle.characters_pace.proofs.Carried.{hexed-length, hex-exact}
+use Rattle.characters_pace.specs.Characters.{hexed}
+use Rattle.refusals.specs.declared.Written.{Written}
+use Rattle.refusals.specs.declared.Written.the-variants.{Frame}
+use Rattle.refusals.specs.Writing.{writtenAs, roomAfter, overLong}
+use Rattle.refusals.proofs.Writing.{frame-says, short-says, just-filled}
+use Rattle.frames_written_pace.specs.Written.{headBytes, bodyChars, endOf, endChars, frameChars, framedAs, sealed}
+use Rattle.characters_pace.proofs.Carried.{hexed-length}
 
 -- ---- the header
 
@@ -41,33 +41,29 @@ head-is pair address command n word h e p =
 
 -- ---- the end
 
--- CHKSUM, then the last mark
-pub seal-is : (s ys pair : List ℕ) (n sum : ℕ) → n + 18 ≤ length s
-    → ys ≡ hexAfter pair (take (n + 17 - (n + 13)) (drop (n + 13) s)) → pair ≡ bytesOf HighFirst 2 sum
-    → sum ≡ closing 65536 (total (take (n + 13 - 1) (drop 1 s)))
-    → set (putMid (n + 13) (n + 17 - (n + 13)) s ys) (n + 17) 0x0D ≡ sealed n s
-seal-is s ys pair n sum room put p e =
-    let size : length pair ≡ 2 = ap length p in
-    let exact = part-length (n + 13) (n + 17 - (n + 13)) s (omega arith) in
-    let y : ys ≡ hexed pair = put ∙ hex-exact pair (take (n + 17 - (n + 13)) (drop (n + 13) s)) (omega arith) in
-    let front = take (n + 13) s in
-    let four : n + 17 - (n + 13) ≡ 4 = omega arith in
-    let at : n + 13 + 4 ≡ n + 17 = omega arith in
-    let past : n + 17 + 1 ≡ n + 18 = omega arith in
-    let covered : n + 13 - 1 ≡ n + 12 = omega arith in
-    let long : length front ≡ n + 13 = length-take-le (n + 13) s (omega arith) in
-    let chars : ys ≡ hexed (bytesOf HighFirst 2 (closing 65536 (total (take (n + 12) (drop 1 s))))) =
-    y ∙ ap hexed (p ∙ ap (bytesOf HighFirst 2) (e ∙ ap (λ (k : ℕ). closing 65536 (total (take k (drop 1 s)))) covered)) in
-    let more : length (front ++ ys) ≡ n + 17 = length-append front ys ∙ omega (arith, long, ap length y, hexed-length pair, ap length p) in
-    let whole = take-append-drop (n + 13) s in
-    ap (λ (l : List ℕ). set (putMid (n + 13) (n + 17 - (n + 13)) l ys) (n + 17) 0x0D) (sym whole)
-    ∙ ap (λ (k : ℕ). set (putMid (n + 13) k (front ++ drop (n + 13) s) ys) (n + 17) 0x0D) four
-    ∙ ap (λ (l : List ℕ). set l (n + 17) 0x0D) (part-more front s (n + 13) 4 ys long ∙ ap (λ (k : ℕ). (front ++ ys) ++ drop k s) at)
-    ∙ one-more (front ++ ys) s (n + 17) 0x0D 0 more (omega arith)
-    ∙ ap (λ (k : ℕ). ((front ++ ys) ++ 0x0D ∷ []) ++ drop k s) past
-    ∙ ap (λ (l : List ℕ). l ++ drop (n + 18) s) (append-assoc front ys (0x0D ∷ []))
-    ∙ append-assoc front (ys ++ 0x0D ∷ []) (drop (n + 18) s)
-    ∙ ap (λ (l : List ℕ). front ++ ((l ++ 0x0D ∷ []) ++ drop (n + 18) s)) chars
+-- bytes put as characters into a part of just their size
+pub put-exact : (bs part ys : List ℕ) (w : Written) → length part ≡ 2 * length bs → w ≡ writtenAs 0 (length (hexed bs)) (length part)
+    → ys ≡ roomAfter w (hexed bs) part → ys ≡ hexed bs
+put-exact bs part ys w size e put = put ∙ just-filled (hexed bs) part w e (omega (arith, hexed-length bs))
+
+-- CHKSUM in the first four places of five, then the last mark
+pub end-is : (out ys pair : List ℕ) (sum : ℕ) → length out ≡ 5 → ys ≡ hexed pair → pair ≡ bytesOf HighFirst 2 sum
+    → set (putMid 0 (4 - 0) out ys) 4 0x0D ≡ endOf sum
+end-is out ys pair sum five y p =
+    let size : length ys ≡ 4 = ap length (y ∙ ap hexed p) ∙ hexed-length (bytesOf HighFirst 2 sum) in
+    let none : drop (4 + 1) out ≡ [] = drop-of-length-le out {i = 5} (omega arith) in
+    one-more ys out 4 0x0D 0 size (omega arith)
+    ∙ ap (λ (l : List ℕ). (ys ++ 0x0D ∷ []) ++ l) none
+    ∙ append-nil (ys ++ 0x0D ∷ [])
+    ∙ ap (λ (l : List ℕ). l ++ 0x0D ∷ []) (y ∙ ap hexed p)
+
+-- the part for both comes back between what was before and after it
+pub sealed-is : (s ys : List ℕ) (n sum : ℕ) → ys ≡ endOf sum → sum ≡ closing 65536 (total (take (n + 13 - 1) (drop 1 s)))
+    → putMid (n + 13) (n + 18 - (n + 13)) s ys ≡ sealed n s
+sealed-is s ys n sum y e =
+    let k : n + 13 - 1 ≡ n + 12 = omega arith in
+    let m : n + 13 + (n + 18 - (n + 13)) ≡ n + 18 = omega arith in
+    rw (drop-drop, m, y, e, k)
 
 -- ---- the whole
 
@@ -87,17 +83,19 @@ closed-front body old n long =
     ∙ sym (append-assoc front (endChars body) (drop (n + 18) old))
 
 -- first mark, header and INFO, closed
-pub frame-is : (old head load info : List ℕ) (address command n : ℕ) → n + 18 ≤ length old → n ≡ 2 * length info
-    → head ≡ hexed (headBytes address command n) → load ≡ hexAfter info (take (n + 13 - 13) (drop 13 (putMid 1 12 (set old 0 0x7E) head)))
+pub frame-is : (old head load info : List ℕ) (address command n : ℕ) (w : Written) → n + 18 ≤ length old → n ≡ 2 * length info
+    → head ≡ hexed (headBytes address command n)
+    → w ≡ writtenAs 0 (length (hexed info)) (length (take (n + 13 - 13) (drop 13 (putMid 1 12 (set old 0 0x7E) head))))
+    → load ≡ roomAfter w (hexed info) (take (n + 13 - 13) (drop 13 (putMid 1 12 (set old 0 0x7E) head)))
     → sealed n (putMid 13 (n + 13 - 13) (putMid 1 12 (set old 0 0x7E) head) load) ≡ frameChars address command info ++ drop (n + 18) old
 unfolding frameChars
-frame-is old head load info address command n room e h put =
+frame-is old head load info address command n w room e h answer put =
     let size : length head ≡ 12 = ap length h ∙ hexed-length (headBytes address command n) in
     let mark = one-more [] old 0 0x7E 0 refl (omega arith) in
     let begun : putMid 1 12 (set old 0 0x7E) head ≡ (0x7E ∷ head) ++ drop 13 old = ap (λ (s : List ℕ). putMid 1 12 s head) mark ∙ part-more (0x7E ∷ []) old 1 12 head refl in
     let wide : length (putMid 1 12 (set old 0 0x7E) head) ≡ length old = ap length begun ∙ length-append (0x7E ∷ head) (drop 13 old) ∙ omega (arith, length-drop 13 old) in
     let exact = part-length 13 (n + 13 - 13) (putMid 1 12 (set old 0 0x7E) head) (omega arith) in
-    let l : load ≡ hexed info = put ∙ hex-exact info (take (n + 13 - 13) (drop 13 (putMid 1 12 (set old 0 0x7E) head))) (omega arith) in
+    let l : load ≡ hexed info = put-exact info (take (n + 13 - 13) (drop 13 (putMid 1 12 (set old 0 0x7E) head))) load w (omega arith) answer put in
     let size2 : length load ≡ n = ap length l ∙ omega (arith, hexed-length info) in
     let count : n + 13 - 13 ≡ n = omega arith in
     let at : 13 + n ≡ n + 13 = omega arith in
@@ -121,16 +119,18 @@ chars-length address command info =
     let c = length-append (hexed sum) (0x0D ∷ []) in
     omega (arith, hexed-length (headBytes address command (2 * length info)), hexed-length info, hexed-length sum)
 
-not-refused : (n : ℕ) (w : Refusal) → Frame n ≡ Refused w → ⊥
-not-refused n w h = let z : _≡_ {A = ℕ} 0 1 = cc in omega arith
+-- what the writer knows where it does not refuse
+pub record Fits (len places : ℕ) : Type 0 where
+  pub short : len ≤ 2047
+  pub room : 2 * len + 18 ≤ places
 
-pub written-says : (info out : List ℕ) (n : ℕ) → Frame n ≡ writtenOf info out → (n ≡ 2 * length info + 18) × (length info ≤ 2047)
-unfolding writtenOf
-written-says info out n h =
-    let a = past (ltb 2047 (length info)) _ _ _ (not-refused n _) h in
-    let b = past (ltb (length out) (2 * length info + 18)) _ _ _ (not-refused n _) (a .1) in
-    (cc (b .1), ltb-false 2047 (length info) (a .0))
+pub framed-says : (len places n : ℕ) (w : Written) → w ≡ framedAs len places → w ≡ Frame n → Fits len places
+framed-says len places n w e f =
+    let h = sym f ∙ e in
+    record {
+      short = short-says 2047 len (2 * len + 18) places n h;
+      room = frame-says (overLong 2047 len) (2 * len + 18) places n h .1 .1;
+    }
 
-pub written-fits : (info out : List ℕ) → length info ≤ 2047 → 2 * length info + 18 ≤ length out → writtenOf info out ≡ Frame (2 * length info + 18)
-unfolding writtenOf
-written-fits info out short room = rw (le-ltb _ _ short, le-ltb _ _ room)
+pub framed-is : (len places n : ℕ) (w : Written) → w ≡ framedAs len places → w ≡ Frame n → w ≡ Frame (2 * len + 18)
+framed-is len places n w e f = f ∙ ap Frame (frame-says (overLong 2047 len) (2 * len + 18) places n (sym f ∙ e) .1 .0)

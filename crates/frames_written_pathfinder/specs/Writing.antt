@@ -1,11 +1,10 @@
--- The bytes of a Pathfinder frame, and what the two halves of its writer leave in lent room (000, Serial message format; 01, Pathfinder).
+-- The bytes of a Pathfinder frame, and what the two halves of its writer make of lent room (000, Serial message format; 01, Pathfinder).
 -- Assumes nothing.
 use Prim.Native.Nat.{ℕ, _+_, _/_, _%_}
-use mathlib.Core.Bool.{Bool, _&&_}
 use mathlib.Core.List.{List, [], _∷_, _++_}
 use lib.ListN.{length, take, drop}
-use lib.Dec.{leb}
-use Rattle.laws.specs.Choice.{pick}
+use Rattle.refusals.specs.declared.Written.{Written}
+use Rattle.refusals.specs.Writing.{writtenAs, overLong}
 use Rattle.checks.specs.Crc.{crcOf}
 
 -- start mark, length and opcode of a frame with so many bytes of data
@@ -24,15 +23,14 @@ endOf sum = sum / 256 ∷ sum % 256 ∷ 0xFD ∷ []
 unfoldable pub frameBytes : ℕ → List ℕ → List ℕ
 frameBytes op load = (0xFE ∷ coveredOf op load) ++ endOf (crcOf (coveredOf op load))
 
--- the length byte is at most 255, and the frame lies within the room
-abbrev pub fits : ℕ → List ℕ → Bool
-fits len out = leb len 254 && leb (len + 6) (length out)
+-- what either half answers for so many bytes of data: the length byte, which counts the opcode too, says 255 at most
+abbrev pub halfAs : ℕ → ℕ → Written
+halfAs len places = writtenAs (overLong 254 len) (len + 6) places
 
 -- the room with a frame begun in it
-unfoldable pub begun : ℕ → ℕ → List ℕ → List ℕ
-begun op len out = pick (fits len out) (headOf op len ++ drop 3 out) out
+abbrev pub begun : ℕ → ℕ → List ℕ → List ℕ
+begun op len out = headOf op len ++ drop 3 out
 
 -- the room with checksum and end mark after what stands before them
-unfoldable pub sealed : ℕ → List ℕ → List ℕ
-sealed len out =
-    pick (fits len out) (take (len + 3) out ++ (endOf (crcOf (take (len + 2) (drop 1 out))) ++ drop (len + 6) out)) out
+abbrev pub sealed : ℕ → List ℕ → List ℕ
+sealed len out = take (len + 3) out ++ (endOf (crcOf (take (len + 2) (drop 1 out))) ++ drop (len + 6) out)

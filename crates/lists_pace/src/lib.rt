@@ -3,9 +3,12 @@
 use characters_pace::byte_of;
 use characters_pace::word_of;
 use digits::write_byte;
+use refusals::Written;
+use refusals::refuse;
 ghost use mathlib.Core.Path.{_≡_};
 ghost use lib.ListN.{length};
-ghost use Rattle.characters_pace.specs.Characters.{bytesIn, bytesAt, wordsAt, hexAfter};
+ghost use Rattle.refusals.specs.Writing.{writtenAs, roomAfter};
+ghost use Rattle.characters_pace.specs.Characters.{bytesIn, bytesAt, wordsAt, hexed};
 
 // Fills the row with the bytes from place `at` on.
 pub fn bytes_of(s: &[u8], at: u8, row: &mut [u8])
@@ -31,12 +34,13 @@ pub fn words_of(s: &[u8], at: u8, row: &mut [u16])
     }
 }
 
-// Writes the characters of the bytes to the front of the room; where it is too small, nothing.
-pub fn put_hex(bytes: &[u8], out: &mut [u8])
-    ensures { λ _. ⌜ now (out .exit) ≡ hexAfter (now (bytes .entry)) (now (out .entry)) ⌝ }
+// Writes the characters of the bytes to the front of the room, if it holds them.
+pub fn put_hex(bytes: &[u8], out: &mut [u8]) -> Written
+    ensures answer { λ r. ⌜ r ≡ writtenAs 0 (length (hexed (now (bytes .entry)))) (length (now (out .entry))) ⌝ }
+    ensures room { λ r. ⌜ now (out .exit) ≡ roomAfter r (hexed (now (bytes .entry))) (now (out .entry)) ⌝ }
 {
     if out.len() / 2 < bytes.len() {
-        return;
+        return Written::Refused(refuse(refusals::ROOM));
     }
     let mut i = 0;
     while i < bytes.len() {
@@ -45,4 +49,5 @@ pub fn put_hex(bytes: &[u8], out: &mut [u8])
         out[2 * i + 1] = pair[1];
         i += 1;
     }
+    Written::Frame(2 * bytes.len())
 }

@@ -1,20 +1,23 @@
 -- The two ways round: a request that was written is read back, and a frame that is read as a request is the very frame that the writer writes for it.
 -- Each puts together the frame's round trip and, where there are values, that of the setting's row. Assumes nothing.
 use mathlib.Core.Path.{_≡_, refl, sym, ap, _∙_, subst}
-use mathlib.Core.Bool.{true, _&&_}
+use mathlib.Core.Bool.{Bool, true, false, _&&_}
 use mathlib.Core.List.{List, [], _∷_, _++_}
 use Prim.Native.Nat.{ℕ, _+_, _*_, _/_, _%_, _<_, _≤_}
 use native.Mathlib.Omega.{arith}
 use borrow.Author.Tests.{eqb-true}
 use lib.Dec.{lit≤, eqb}
 use lib.ListN.{length, getD, take, drop}
-use lib.Seq.{take-at}
+use Rattle.laws.specs.Choice.{pick}
 use Rattle.laws.specs.Firsts.{firsts}
 use Rattle.laws.proofs.Firsts.{listed}
 use Rattle.laws.proofs.Ladders.{into, both}
 use Rattle.numbers.proofs.Orders.{Bytes}
 use Rattle.refusals.specs.declared.Refusal.{Refusal}
-use Rattle.refusals.specs.declared.Written.the-variants.{Frame, Refused}
+use Rattle.refusals.specs.declared.Written.the-variants.{Frame}
+use Rattle.refusals.specs.Refused.{range}
+use Rattle.refusals.specs.Writing.{roomAfter}
+use Rattle.refusals.proofs.Writing.{fits, frame-says, front-is-frame}
 use Rattle.characters_pace.specs.Characters.{bytesIn}
 use Rattle.characters_pace.proofs.Carried.{bytes-length}
 use Rattle.frames_pace.specs.declared.Frame.{Frame as AFrame}
@@ -24,7 +27,7 @@ use Rattle.frames_written_pace.specs.Written as written
 use Rattle.frames_pace.proofs.Parts.{info-length}
 use Rattle.frames_written_pace.proofs.RoundTrip.{payload-reads-back, frame-reads-back, payload-bytes, frame-writes-back}
 use Rattle.frames_pace.proofs.Whole.{whole-says}
-use Rattle.frames_written_pace.proofs.Writing.{chars-length, written-says, written-fits}
+use Rattle.frames_written_pace.proofs.Writing.{chars-length}
 use Rattle.rows_pace.specs.declared.Command.{Command}
 use Rattle.rows_pace.specs.declared.Command.the-variants as command
 use Rattle.rows_pace.specs.declared.Setting.{Setting}
@@ -44,7 +47,7 @@ use Rattle.requests_pace.specs.declared.Kind.the-variants.{Addressed, Ba
 use Rattle.requests_pace.specs.declared.Request.{Request}
 use Rattle.requests_pace.specs.declared.Request.the-variants.{Ask, Set}
 use Rattle.requests_pace.specs.declared.Parsed.the-variants.{Is, Refused as NoRequest}
-use Rattle.requests_pace.specs.Request.{kindOf, addressOf, codeOf, askInfo, infoOf, charsOf, askOf, writtenOf, roomAfter}
+use Rattle.requests_pace.specs.Request.{kindOf, addressOf, codeOf, askInfo, infoOf, frameFor, askFault, faultOf, sentAs}
 use Rattle.requests_pace.specs.Parsed.{ofFound, ofKind, wholeOf, ofFrame, parsedOf}
 use Rattle.requests_pace.proofs.Reading.{addressed, empty, carried, a-frame}
 
@@ -72,25 +75,20 @@ module _ (address code : ℕ) (info : List ℕ) (a : address < 256) (c : code < 
   unfolding chars
   bytes-back = payload-reads-back address code info a c b
 
-no-frame-here : {A : Type 0} (n : ℕ) (w : Refusal) → Frame n ≡ Refused w → A
-no-frame-here n w h = let z : _≡_ {A = ℕ} 0 1 = cc in absurd (omega arith)
-
--- a request without values: the frame that asks, and its length
-ask-back : (address code n : ℕ) (out : List ℕ) (k : Kind) → kindOf (commandOf code) ≡ k → address < 256 → code < 256 → Frame n ≡ askOf k address out
-    → (n ≡ 2 * length (askInfo k address) + 18) × (Is (Ask address code) ≡ parsedOf (written.frameChars address code (askInfo k address)))
+-- a request without values: the frame that asks
+ask-back : (address code : ℕ) (k : Kind) → kindOf (commandOf code) ≡ k → address < 256 → code < 256 → askFault k ≡ 0
+    → Is (Ask address code) ≡ parsedOf (written.frameChars address code (askInfo k address))
 unfolding Bytes chars
-ask-back address code n out Addressed k a c e =
-    let w = written-says (address ∷ []) out n e in (
-      w .0,
-      addressed address code (frames.infoOf (chars address code (address ∷ []) a c (a, tt) (w .1))) k
-          (count-back address code (address ∷ []) a c (a, tt) (w .1)) (ap (λ (l : List ℕ). getD l 0 0) (bytes-back address code (address ∷ []) a c (a, tt) (w .1)))
-          ∙ whole-back address code (address ∷ []) a c (a, tt) (w .1),
-    )
-ask-back address code n out Bare k a c e =
-    let w = written-says [] out n e in
-    (w .0, empty address code (frames.infoOf (chars address code [] a c tt (w .1))) k (count-back address code [] a c tt (w .1)) ∙ whole-back address code [] a c tt (w .1))
-ask-back address code n out (Carries s) k a c e = no-frame-here n _ e
-ask-back address code n out Unlisted k a c e = no-frame-here n _ e
+ask-back address code Addressed k a c e =
+    let info = address ∷ [] in
+    let short : length info ≤ 2047 = lit≤ tt in
+    addressed address code (frames.infoOf (chars address code info a c (a, tt) short)) k
+    (count-back address code info a c (a, tt) short) (ap (λ (l : List ℕ). getD l 0 0) (bytes-back address code info a c (a, tt) short))
+    ∙ whole-back address code info a c (a, tt) short
+ask-back address code Bare k a c e =
+    empty address code (frames.infoOf (chars address code [] a c tt (lit≤ tt))) k (count-back address code [] a c tt (lit≤ tt)) ∙ whole-back address code [] a c tt (lit≤ tt)
+ask-back address code (Carries s) k a c e = absurd (omega arith)
+ask-back address code Unlisted k a c e = absurd (omega arith)
 
 -- a request with values
 values-back : (address : ℕ) (v : Values) → address < 256 → allowedOf v ≡ true
@@ -108,21 +106,21 @@ values-back address v a e =
     ∙ carried address code (frames.infoOf (written.frameChars address code info)) (settingOf v) (ap kindOf (writes-itself (settingOf v))) even
     ∙ whole-back address code info a c b short
 
--- the front of the room is the frame
-front : (q : Request) (out : List ℕ) (n : ℕ) → n ≡ 2 * length (infoOf q) + 18 → charsOf q ≡ take n (roomAfter (Frame n) q out)
-unfolding charsOf
-front q out n e = sym (take-at (charsOf q) (drop n out) n (chars-length (addressOf q) (codeOf q) (infoOf q) ∙ sym e))
+-- every request without a fault is read back from its frame
+pub right-reads-back : (q : Request) → Fits q → faultOf q ≡ 0 → Is q ≡ parsedOf (frameFor q)
+unfolding faultOf
+right-reads-back (Ask address code) f e = ask-back address code (kindOf (commandOf code)) refl (f .0) (f .1) e
+right-reads-back (Set address v) f e = go (allowedOf v) refl e
+  where
+    go : (t : Bool) → allowedOf v ≡ t → pick t 0 range ≡ 0 → Is (Set address v) ≡ parsedOf (frameFor (Set address v))
+    go true h z = values-back address v f h
+    go false h z = absurd (omega arith)
 
 -- what the writer left at the front of the room is read as the request that was written
-pub written-reads-back : (q : Request) (out : List ℕ) (n : ℕ) → Fits q → Frame n ≡ writtenOf q out → Is q ≡ parsedOf (take n (roomAfter (Frame n) q out))
-unfolding writtenOf charsOf
-written-reads-back (Ask address code) out n f e =
-    let r = ask-back address code n out (kindOf (commandOf code)) refl (f .0) (f .1) e in
-    r .1 ∙ ap parsedOf (front (Ask address code) out n (r .0))
-written-reads-back (Set address v) out n f e =
-    let g = into (allowedOf v) _ _ _ (λ h. no-frame-here n _ h) e in
-    let w = written-says (rows.infoOf v) out n (g .1) in
-    values-back address v f (g .0) ∙ ap parsedOf (front (Set address v) out n (w .0))
+pub written-reads-back : (q : Request) (out : List ℕ) (n : ℕ) → Fits q → Frame n ≡ sentAs q (length out) → Is q ≡ parsedOf (take n (roomAfter (Frame n) (frameFor q) out))
+written-reads-back q out n f e =
+    right-reads-back q f (frame-says (faultOf q) (length (frameFor q)) (length out) n e .0)
+    ∙ ap parsedOf (sym (front-is-frame (faultOf q) n (frameFor q) out e))
 
 -- ---- read, then written
 
@@ -136,20 +134,10 @@ carries (command.Reads x) s e = let z : _≡_ {A = ℕ} 0 1 = cc in absurd (omeg
 carries (command.Writes x) s e = let same : x ≡ s = cc in ap command.Writes same
 carries command.Unlisted s e = let z : _≡_ {A = ℕ} 0 1 = cc in absurd (omega arith)
 
--- a request that was read: it may be written, and its frame is what was read
+-- a request that was read: it has no fault, and its frame is what was read
 pub record Same (s : List ℕ) (q : Request) : Type 0 where
-  pub frame : charsOf q ≡ s
-  pub may : (out : List ℕ) → length s ≤ length out → writtenOf q out ≡ Frame (length s)
-
--- a frame whose payload is a request's INFO
-same-of : (s : List ℕ) (q : Request) → charsOf q ≡ s → length (infoOf q) ≤ 2047 → ((out : List ℕ) → writtenOf q out ≡ written.writtenOf (infoOf q) out) → Same s q
-unfolding charsOf
-same-of s q e short w =
-    let size : length s ≡ 2 * length (infoOf q) + 18 = sym (ap length e) ∙ chars-length (addressOf q) (codeOf q) (infoOf q) in
-    record {
-      frame = e;
-      may = λ out room. w out ∙ written-fits (infoOf q) out short (omega arith) ∙ ap Frame (sym size);
-    }
+  pub no-fault : faultOf q ≡ 0
+  pub frame : frameFor q ≡ s
 
 module _ (s : List ℕ) (address code st len : ℕ) (w : frame.Whole address code st len ≡ frames.frameOf s) where
   -- the characters of INFO are as many as the frame says, and the payload is theirs
@@ -159,8 +147,7 @@ module _ (s : List ℕ) (address code st len : ℕ) (w : frame.Whole address cod
   payload-size : length (frames.payloadOf s) ≡ len / 2
   payload-size = omega (arith, bytes-length (frames.infoOf s), size-of)
 
-  again : (q : Request) (k : ℕ) → addressOf q ≡ address → codeOf q ≡ code → infoOf q ≡ frames.payloadOf s → len ≡ 2 * k → charsOf q ≡ s
-  unfolding charsOf
+  again : (q : Request) (k : ℕ) → addressOf q ≡ address → codeOf q ≡ code → infoOf q ≡ frames.payloadOf s → len ≡ 2 * k → frameFor q ≡ s
   again q k a c i e =
       rw (a, c, i) (frame-writes-back s address code st len w k e)
 
@@ -172,17 +159,16 @@ module _ (s : List ℕ) (address code st len : ℕ) (w : frame.Whole address cod
   of-found q (setting.Refused r) e = not-request q r e
 
   -- a request without values
-  asked : (k : Kind) → kindOf (commandOf code) ≡ k → (i : ℕ) → len ≡ 2 * i → askInfo k address ≡ frames.payloadOf s
-      → ((out : List ℕ) → askOf k address out ≡ written.writtenOf (askInfo k address) out) → length (askInfo k address) ≤ 2047 → Same s (Ask address code)
-  unfolding writtenOf
-  asked k e i even p f short =
-      let info : askInfo (kindOf (commandOf code)) address ≡ askInfo k address = ap (λ (x : Kind). askInfo x address) e in
-      let small : length (askInfo (kindOf (commandOf code)) address) ≤ 2047 = omega (arith, ap length info) in
-      same-of s (Ask address code) (again (Ask address code) i refl refl (info ∙ p) even) small
-      (λ out. ap (λ (x : Kind). askOf x address out) e ∙ f out ∙ ap (λ (l : List ℕ). written.writtenOf l out) (sym info))
+  asked : (k : Kind) → kindOf (commandOf code) ≡ k → askFault k ≡ 0 → (i : ℕ) → len ≡ 2 * i → askInfo k address ≡ frames.payloadOf s → Same s (Ask address code)
+  unfolding faultOf
+  asked k e right i even p =
+      record {
+        no-fault = ap askFault e ∙ right;
+        frame = again (Ask address code) i refl refl (ap (λ (x : Kind). askInfo x address) e ∙ p) even;
+      }
 
   by-kind : (q : Request) (k : Kind) → kindOf (commandOf code) ≡ k → Is q ≡ ofKind k address code (frames.infoOf s) → Same s q
-  unfolding firsts writtenOf
+  unfolding firsts faultOf
   by-kind q Addressed e h =
       let d = frames.payloadOf s in
       let f = into (eqb (length (frames.infoOf s)) 2 && eqb (getD d 0 0) address) _ _ _ (λ x. not-request q _ x) h in
@@ -191,14 +177,14 @@ module _ (s : List ℕ) (address code st len : ℕ) (w : frame.Whole address cod
       let one : length d ≡ 1 = omega (arith, payload-size, size-of) in
       let info : askInfo Addressed address ≡ d = ap (λ (x : ℕ). x ∷ []) (sym (eqb-true _ _ (g .1))) ∙ listed d 1 one in
       let is : Ask address code ≡ q = cc (f .1) in
-      subst (Same s) is (asked Addressed e 1 (omega (arith, size-of)) info (λ out. refl) (lit≤ tt))
+      subst (Same s) is (asked Addressed e refl 1 (omega (arith, size-of)) info)
   by-kind q Bare e h =
       let d = frames.payloadOf s in
       let f = into (eqb (length (frames.infoOf s)) 0) _ _ _ (λ x. not-request q _ x) h in
       let none : length (frames.infoOf s) ≡ 0 = eqb-true _ _ (f .0) in
       let zero : length d ≡ 0 = omega (arith, payload-size, size-of) in
       let is : Ask address code ≡ q = cc (f .1) in
-      subst (Same s) is (asked Bare e 0 (omega (arith, size-of)) (listed d 0 zero) (λ out. refl) (lit≤ tt))
+      subst (Same s) is (asked Bare e refl 0 (omega (arith, size-of)) (listed d 0 zero))
   by-kind q (Carries x) e h =
       let d = frames.payloadOf s in
       let f = into (eqb (length (frames.infoOf s) % 2) 0) _ _ _ (λ y. not-request q _ y) h in
@@ -208,7 +194,7 @@ module _ (s : List ℕ) (address code st len : ℕ) (w : frame.Whole address cod
       let r = values-write-back x d v (payload-bytes s address code st len w) (g .1 .1) in
       let same : rowOf (settingOf v) .writes ≡ code = ap (λ (y : Setting). rowOf y .writes) (r .setting) ∙ sym (writes-only code x (carries (commandOf code) x e)) in
       subst (Same s) (sym (g .1 .0))
-      (same-of s (Set address v) (again (Set address v) (len / 2) refl same (r .info) (omega (arith, size-of))) (info-short v) (λ out. rw (r .may)))
+      (record { no-fault = rw (r .may); frame = again (Set address v) (len / 2) refl same (r .info) (omega (arith, size-of)) })
   by-kind q Unlisted e h = not-request q _ h
 
 -- a frame that is read as a request is the very frame that is written for it
@@ -222,7 +208,7 @@ request-again s q h = go (frames.frameOf s) refl h
 
 -- and the writer leaves it at the front of the room, before what was there past it
 pub read-writes-back : (s : List ℕ) (q : Request) → Is q ≡ parsedOf s → (out : List ℕ) → length s ≤ length out
-    → (writtenOf q out ≡ Frame (length s)) × (roomAfter (Frame (length s)) q out ≡ s ++ drop (length s) out)
+    → (Frame (length s) ≡ sentAs q (length out)) × (roomAfter (Frame (length s)) (frameFor q) out ≡ s ++ drop (length s) out)
 read-writes-back s q h out room =
     let r = request-again s q h in
-    (r .may out room, ap (λ (l : List ℕ). l ++ drop (length s) out) (r .frame))
+    rw (r .frame) (fits (faultOf q) (length s) (length out) (r .no-fault) room, refl)

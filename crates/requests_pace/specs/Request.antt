@@ -1,12 +1,12 @@
--- PACE requests as they are written: what each carries, which are refused (7, 8, 9, then 11), and what stands in the room after (01, PACE; 01, Refusal numbers).
--- Assumes nothing.
-use mathlib.Core.List.{List, [], _∷_, _++_}
+-- PACE requests as they are written: what each carries, the one frame of each, and what is wrong with one (01, PACE; 01, Refusal numbers: writing
+-- uses 7, 8, 9, then 11). What the writer answers and leaves is the rule of every writer. Assumes nothing.
+use mathlib.Core.List.{List, [], _∷_}
 use Prim.Native.Nat.{ℕ}
-use lib.ListN.{drop}
+use lib.ListN.{length}
 use Rattle.laws.specs.Choice.{pick}
 use Rattle.refusals.specs.declared.Written.{Written}
-use Rattle.refusals.specs.declared.Written.the-variants.{Frame, Refused}
-use Rattle.refusals.specs.Refused.{refusedWith, request, shape, range}
+use Rattle.refusals.specs.Refused.{request, shape, range}
+use Rattle.refusals.specs.Writing.{writtenAs}
 use Rattle.frames_written_pace.specs.Written as frames
 use Rattle.rows_pace.specs.declared.Command.{Command}
 use Rattle.rows_pace.specs.declared.Command.the-variants as command
@@ -50,24 +50,24 @@ abbrev pub infoOf : Request → List ℕ
 infoOf (Ask address command) = askInfo (kindOf (commandOf command)) address
 infoOf (Set address values) = rows.infoOf values
 
-unfoldable pub charsOf : Request → List ℕ
-charsOf q = frames.frameChars (addressOf q) (codeOf q) (infoOf q)
+-- the frame that the document gives for a request
+abbrev pub frameFor : Request → List ℕ
+frameFor q = frames.frameChars (addressOf q) (codeOf q) (infoOf q)
 
 -- ---- writing
 
 -- asking: a command that is not listed is 7, one that carries values is 8
-abbrev pub askOf : Kind → ℕ → List ℕ → Written
-askOf Addressed address out = frames.writtenOf (address ∷ []) out
-askOf Bare address out = frames.writtenOf [] out
-askOf (Carries s) address out = Refused (refusedWith shape)
-askOf Unlisted address out = Refused (refusedWith request)
+abbrev pub askFault : Kind → ℕ
+askFault Addressed = 0
+askFault Bare = 0
+askFault (Carries s) = shape
+askFault Unlisted = request
 
--- a value outside its range is 9; then the frame's own, of which a request meets 11 alone
-unfoldable pub writtenOf : Request → List ℕ → Written
-writtenOf (Ask address command) out = askOf (kindOf (commandOf command)) address out
-writtenOf (Set address values) out = pick (allowedOf values) (frames.writtenOf (rows.infoOf values) out) (Refused (refusedWith range))
+-- the number of the refusal that a request meets whatever the room, 0 where there is none; a value outside its range is 9
+unfoldable pub faultOf : Request → ℕ
+faultOf (Ask address command) = askFault (kindOf (commandOf command))
+faultOf (Set address values) = pick (allowedOf values) 0 range
 
--- the room after: the frame and what was there past it; as it was where nothing is written
-abbrev pub roomAfter : Written → Request → List ℕ → List ℕ
-roomAfter (Frame n) q out = charsOf q ++ drop n out
-roomAfter (Refused w) q out = out
+-- what writing it answers, with so many bytes of room
+abbrev pub sentAs : Request → ℕ → Written
+sentAs q places = writtenAs (faultOf q) (length (frameFor q)) places

@@ -16,8 +16,10 @@ use writes_pace::info_of;
 use writes_pace::may_write;
 ghost use mathlib.Core.Path.{_≡_};
 ghost use mathlib.Core.Bool.{true};
+ghost use lib.ListN.{length};
+ghost use Rattle.refusals.specs.Writing.{roomAfter};
 ghost use Rattle.characters_pace.specs.Characters.{allHex};
-ghost use Rattle.requests_pace.specs.Request.{kindOf, writtenOf, roomAfter};
+ghost use Rattle.requests_pace.specs.Request.{kindOf, frameFor, sentAs};
 ghost use Rattle.requests_pace.specs.Parsed.{ofFound, wholeOf, parsedOf};
 
 pub enum Request {
@@ -58,10 +60,10 @@ fn kind_of(command: Command) -> Kind
     }
 }
 
-// Writes a request to the front of the room, or says why not.
+// Writes a request's frame at the front of the room; bytes after it keep their contents, and a refusal changes nothing.
 pub fn write_request(q: Request, out: &mut [u8]) -> Written
-    ensures answer { λ r. ⌜ r ≡ writtenOf q (now (out .entry)) ⌝ }
-    ensures filled { λ r. ⌜ now (out .exit) ≡ roomAfter r q (now (out .entry)) ⌝ }
+    ensures answer { λ r. ⌜ r ≡ sentAs q (length (now (out .entry))) ⌝ }
+    ensures room { λ r. ⌜ now (out .exit) ≡ roomAfter r (frameFor q) (now (out .entry)) ⌝ }
 {
     match q {
         Request::Ask { address, command } => write_ask(address, command, out),
@@ -70,8 +72,8 @@ pub fn write_request(q: Request, out: &mut [u8]) -> Written
 }
 
 fn write_ask(address: u8, command: u8, out: &mut [u8]) -> Written
-    ensures answer { λ r. ⌜ r ≡ writtenOf (Request.Ask address command) (now (out .entry)) ⌝ }
-    ensures filled { λ r. ⌜ now (out .exit) ≡ roomAfter r (Request.Ask address command) (now (out .entry)) ⌝ }
+    ensures answer { λ r. ⌜ r ≡ sentAs (Request.Ask address command) (length (now (out .entry))) ⌝ }
+    ensures room { λ r. ⌜ now (out .exit) ≡ roomAfter r (frameFor (Request.Ask address command)) (now (out .entry)) ⌝ }
 {
     let info = [address];
     let k = kind_of(command_of(command));
@@ -84,8 +86,8 @@ fn write_ask(address: u8, command: u8, out: &mut [u8]) -> Written
 }
 
 fn write_values(address: u8, values: Values, out: &mut [u8]) -> Written
-    ensures answer { λ r. ⌜ r ≡ writtenOf (Request.Set address values) (now (out .entry)) ⌝ }
-    ensures filled { λ r. ⌜ now (out .exit) ≡ roomAfter r (Request.Set address values) (now (out .entry)) ⌝ }
+    ensures answer { λ r. ⌜ r ≡ sentAs (Request.Set address values) (length (now (out .entry))) ⌝ }
+    ensures room { λ r. ⌜ now (out .exit) ≡ roomAfter r (frameFor (Request.Set address values)) (now (out .entry)) ⌝ }
 {
     if !may_write(values) {
         return Written::Refused(refuse(refusals::RANGE));

@@ -1,20 +1,16 @@
--- The ways out of the rules for writing a request, each from the facts that the code has there.
+-- The faults of a request, each from the facts that the code has there.
 -- Assumes nothing.
 use mathlib.Core.Path.{_≡_, sym, ap}
 use mathlib.Core.Bool.{true, false}
 use Prim.Native.Nat.{ℕ, _<_, _≤_}
 use native.Mathlib.Omega.{arith}
-use borrow.Author.Tests.{le-leb, lt-leb, eq-eqb, ne-eqb}
+use borrow.Author.Tests.{le-leb, lt-leb, ne-eqb}
 use lib.Dec.{ltb}
 use lib.IntN.{ℤ}
-use Rattle.refusals.specs.declared.Written.the-variants.{Refused as NotWritten}
-use Rattle.refusals.specs.Refused.{refusedWith, request, shape, range, register}
+use Rattle.refusals.specs.Refused.{request, shape, range, register}
 use Rattle.registers_pathfinder.specs.Registers.{count, inRange}
-use Rattle.requests_pathfinder.specs.declared.Request.{Request}
 use Rattle.requests_pathfinder.specs.declared.Request.the-variants.{Ask, Write}
-use Rattle.requests_pathfinder.specs.Requests.{faultOf, writtenAs, sentAs}
-
--- ---- faults of a request
+use Rattle.requests_pathfinder.specs.Requests.{faultOf}
 
 module _ (op : ℕ) where
   pub ask-zero : op < 1 → request ≡ faultOf (Ask op)
@@ -46,13 +42,3 @@ module _ (r : ℕ) (v : ℤ) where
     pub write-right : inRange r v ≡ true → 0 ≡ faultOf (Write r v)
     unfolding faultOf
     write-right h = simp (known, h)
-
--- n is the fault, as the writer holds it
-module _ (q : Request) (places n : ℕ) (e : n ≡ faultOf q) where
-  pub faulty : (n ≡ 0 → ⊥) → NotWritten (refusedWith n) ≡ sentAs q places
-  unfolding sentAs
-  faulty h = rw (← e, ne-eqb n 0 h)
-
-  pub sound : n ≡ 0 → writtenAs q places ≡ sentAs q places
-  unfolding sentAs
-  sound h = rw (← e, eq-eqb n 0 h)

@@ -1,15 +1,15 @@
--- The requests, the one frame of each, and what writing one finds and leaves (000, 0x0E Write parameter register; 01, Pathfinder and
--- Refusal numbers: writing uses 7, 10, 8, 9, 11). Assumes nothing.
-use Prim.Native.Nat.{ℕ, _+_}
+-- The requests, the one frame of each, and what is wrong with one (000, 0x0E Write parameter register; 01, Pathfinder and Refusal numbers:
+-- writing uses 7, 10, 8, 9, 11). What the writer answers and leaves is the rule of every writer. Assumes nothing.
+use Prim.Native.Nat.{ℕ}
 use mathlib.Core.Bool.{Bool, _&&_}
-use mathlib.Core.List.{List, [], _∷_, _++_}
+use mathlib.Core.List.{List, [], _∷_}
 use lib.IntN.{ℤ}
-use lib.ListN.{length, drop}
+use lib.ListN.{length}
 use lib.Dec.{ltb, leb, eqb}
 use Rattle.laws.specs.Choice.{pick}
 use Rattle.refusals.specs.declared.Written.{Written}
-use Rattle.refusals.specs.declared.Written.the-variants.{Frame, Refused}
-use Rattle.refusals.specs.Refused.{refusedWith, request, shape, range, register, room}
+use Rattle.refusals.specs.Refused.{request, shape, range, register}
+use Rattle.refusals.specs.Writing.{writtenAs}
 use Rattle.numbers.specs.declared.Order.the-variants.{LowFirst}
 use Rattle.numbers.specs.Bytes.{bytesOf}
 use Rattle.signs.specs.Signed.{bitsOf}
@@ -44,15 +44,6 @@ unfoldable pub faultOf : Request → ℕ
 faultOf (Ask op) = pick (asks op) 0 (pick (eqb op 0x0E) shape request)
 faultOf (Write r v) = pick (ltb r count) (pick (inRange r v) 0 range) register
 
--- what writing a request without fault answers, with so much room
-unfoldable pub writtenAs : Request → ℕ → Written
-writtenAs q places =
-    pick (ltb places (length (loadOf q) + 6)) (Refused (refusedWith room)) (Frame (length (loadOf q) + 6))
-
-unfoldable pub sentAs : Request → ℕ → Written
-sentAs q places = pick (eqb (faultOf q) 0) (writtenAs q places) (Refused (refusedWith (faultOf q)))
-
--- the room after: the frame in front of what was there past it; after a refusal as it was
-abbrev pub roomAfter : Written → Request → List ℕ → List ℕ
-roomAfter (Frame n) q out = frameFor q ++ drop n out
-roomAfter (Refused r) q out = out
+-- what writing it answers, with so many bytes of room
+abbrev pub sentAs : Request → ℕ → Written
+sentAs q places = writtenAs (faultOf q) (length (frameFor q)) places

@@ -12,7 +12,8 @@ use signs::bits32;
 ghost use mathlib.Core.Path.{_≡_};
 ghost use lib.ListN.{length};
 ghost use Rattle.refusals.specs.Refused.{refusedWith};
-ghost use Rattle.requests_pathfinder.specs.Requests.{setLoad, faultOf, sentAs, writtenAs, roomAfter};
+ghost use Rattle.refusals.specs.Writing.{writtenAs, roomAfter};
+ghost use Rattle.requests_pathfinder.specs.Requests.{setLoad, frameFor, faultOf, sentAs};
 
 pub enum Request {
     // A request without data, by its opcode.
@@ -24,7 +25,7 @@ pub enum Request {
 // Writes a request's frame at the front of the room; bytes after it keep their contents, and a refusal changes nothing.
 pub fn write_request(q: Request, out: &mut [u8]) -> Written
     ensures answer { λ r. ⌜ r ≡ sentAs q (length (now (out .entry))) ⌝ }
-    ensures room { λ r. ⌜ now (out .exit) ≡ roomAfter r q (now (out .entry)) ⌝ }
+    ensures room { λ r. ⌜ now (out .exit) ≡ roomAfter r (frameFor q) (now (out .entry)) ⌝ }
 {
     match q {
         Request::Ask(opcode) => write_ask(opcode, out),
@@ -35,7 +36,7 @@ pub fn write_request(q: Request, out: &mut [u8]) -> Written
 // Writes the request without data that this opcode is.
 pub fn write_ask(opcode: u8, out: &mut [u8]) -> Written
     ensures answer { λ r. ⌜ r ≡ sentAs (Request.Ask opcode) (length (now (out .entry))) ⌝ }
-    ensures room { λ r. ⌜ now (out .exit) ≡ roomAfter r (Request.Ask opcode) (now (out .entry)) ⌝ }
+    ensures room { λ r. ⌜ now (out .exit) ≡ roomAfter r (frameFor (Request.Ask opcode)) (now (out .entry)) ⌝ }
 {
     let number = fault_of_ask(opcode);
     if number != 0 {
@@ -47,11 +48,11 @@ pub fn write_ask(opcode: u8, out: &mut [u8]) -> Written
 // Writes request 0E.
 pub fn write_set(register: u8, value: i32, out: &mut [u8]) -> Written
     ensures answer { λ r. ⌜ r ≡ sentAs (Request.Write register value) (length (now (out .entry))) ⌝ }
-    ensures room { λ r. ⌜ now (out .exit) ≡ roomAfter r (Request.Write register value) (now (out .entry)) ⌝ }
+    ensures room { λ r. ⌜ now (out .exit) ≡ roomAfter r (frameFor (Request.Write register value)) (now (out .entry)) ⌝ }
 {
-    let number = fault_of_write(register, value);
-    if number != 0 {
-        return not_written(number);
+    let fault = fault_of_write(register, value);
+    if fault != 0 {
+        return not_written(fault);
     }
     set_frame(register, value, out)
 }
@@ -75,39 +76,40 @@ fn fault_of_ask(opcode: u8) -> u8
 fn fault_of_write(register: u8, value: i32) -> u8
     ensures { λ r. ⌜ r ≡ faultOf (Request.Write register value) ⌝ }
 {
-    if !is_register(register) {
+    let known = is_register(register);
+    let allowed = in_range(register, value);
+    if !known {
         return refusals::REGISTER;
     }
-    if !in_range(register, value) {
+    if !allowed {
         return refusals::RANGE;
     }
     0
 }
 
+// The header, and the part for checksum and end mark; there is no data between them.
 fn ask_frame(opcode: u8, out: &mut [u8]) -> Written
-    ensures answer { λ r. ⌜ r ≡ writtenAs (Request.Ask opcode) (length (now (out .entry))) ⌝ }
-    ensures room { λ r. ⌜ now (out .exit) ≡ roomAfter r (Request.Ask opcode) (now (out .entry)) ⌝ }
+    ensures answer { λ r. ⌜ r ≡ writtenAs 0 6 (length (now (out .entry))) ⌝ }
+    ensures room { λ r. ⌜ now (out .exit) ≡ roomAfter r (frameFor (Request.Ask opcode)) (now (out .entry)) ⌝ }
 {
-    if out.len() < 6 {
-        return not_written(refusals::ROOM);
-    }
-    begin(opcode, 0, out);
-    seal(0, out);
-    Written::Frame(6)
+    let head = begin(opcode, 0, out);
+    let Written::Frame(_) = head else {
+        return head;
+    };
+    seal(0, out)
 }
 
 // The header, then the part for the data lent to their writer, then the part for checksum and end mark.
 fn set_frame(register: u8, value: i32, out: &mut [u8]) -> Written
-    ensures answer { λ r. ⌜ r ≡ writtenAs (Request.Write register value) (length (now (out .entry))) ⌝ }
-    ensures room { λ r. ⌜ now (out .exit) ≡ roomAfter r (Request.Write register value) (now (out .entry)) ⌝ }
+    ensures answer { λ r. ⌜ r ≡ writtenAs 0 11 (length (now (out .entry))) ⌝ }
+    ensures room { λ r. ⌜ now (out .exit) ≡ roomAfter r (frameFor (Request.Write register value)) (now (out .entry)) ⌝ }
 {
-    if out.len() < 11 {
-        return not_written(refusals::ROOM);
-    }
-    begin(0x0E, 5, out);
+    let begun = begin(0x0E, 5, out);
+    let Written::Frame(_) = begun else {
+        return begun;
+    };
     put_set(register, value, &mut out[3..8]);
-    seal(5, out);
-    Written::Frame(11)
+    seal(5, out)
 }
 
 // Register and value, the value's low byte first.

@@ -1,5 +1,4 @@
 // Tongzhu requests read (002, 6; 01, Tongzhu): which request a frame is. `requests_tongzhu` writes them.
-use calendar::read_bcd;
 use frames_tongzhu::Frame;
 use frames_tongzhu::Kind;
 use frames_tongzhu::kind_of;
@@ -9,11 +8,10 @@ use refusals::refuse;
 use requests_tongzhu::Request;
 use times_tongzhu::Time;
 use times_tongzhu::is_real;
-use times_tongzhu::plain;
+use times_tongzhu::time_in;
 ghost use mathlib.Core.Path.{_≡_};
 ghost use lib.ListN.{length};
-ghost use Rattle.calendar.specs.Decimal.{bcdOf};
-ghost use Rattle.times_tongzhu.specs.Times.{plainOf, timeIn};
+ghost use Rattle.times_tongzhu.specs.Times.{timeIn};
 ghost use Rattle.requests_read_tongzhu.specs.Reading.{payloadIn, timeRequest, parsedOf};
 
 // What request the input is.
@@ -53,7 +51,7 @@ fn payload_in(function: u8, p: &[u8]) -> Parsed
             if p.len() != 6 {
                 return Parsed::Refused(refuse(refusals::SHAPE));
             }
-            time_request(time_in(p))
+            time_request(time_of(p))
         }
         Kind::Unlisted => Parsed::Refused(refuse(refusals::REQUEST)),
     }
@@ -68,23 +66,10 @@ fn time_request(t: Time) -> Parsed
     Parsed::Refused(refuse(refusals::RANGE))
 }
 
-fn time_in(p: &[u8]) -> Time
+// Six bytes as the time that they are.
+fn time_of(p: &[u8]) -> Time
     requires { ⌜ length (now p) ≡ 6 ⌝ }
     ensures { λ r. ⌜ r ≡ timeIn (now (p .entry)) ⌝ }
 {
-    Time {
-        year: from_bcd(p[0]),
-        month: from_bcd(p[1]),
-        day: from_bcd(p[2]),
-        hour: from_bcd(p[3]),
-        minute: from_bcd(p[4]),
-        second: from_bcd(p[5]),
-    }
-}
-
-// The number of a BCD byte; 255, which is in no real date or time, for a byte that is none.
-fn from_bcd(b: u8) -> u8
-    ensures { λ r. ⌜ r ≡ plainOf (bcdOf b) ⌝ }
-{
-    plain(read_bcd(b))
+    time_in([p[0], p[1], p[2], p[3], p[4], p[5]])
 }

@@ -1,1 +1,1 @@
-pub mod Wires
+pub mod Made

@@ -1,14 +1,12 @@
--- Requests as bytes (002, 6; 01, Tongzhu and Refusal numbers). Written: 7, 8, 9, then 11; there are no registers, so no 10.
--- Assumes nothing.
+-- The requests, the one frame of each, and what is wrong with one (002, 6; 01, Tongzhu and Refusal numbers: writing uses 7, 8, 9, then 11; there
+-- are no registers, so no 10). What the writer answers and leaves is the rule of every writer. Assumes nothing.
 use Prim.Native.Nat.{ℕ}
-use mathlib.Core.List.{List, [], _++_}
-use lib.ListN.{length, drop}
-use lib.Dec.{ltb}
+use mathlib.Core.List.{List, []}
+use lib.ListN.{length}
 use Rattle.laws.specs.Choice.{pick}
-use Rattle.refusals.specs.declared.Refusal.{Refusal}
 use Rattle.refusals.specs.declared.Written.{Written}
-use Rattle.refusals.specs.declared.Written.the-variants.{Frame, Refused as NotWritten}
-use Rattle.refusals.specs.Refused.{refusedWith, request, shape, range, room}
+use Rattle.refusals.specs.Refused.{request, shape, range}
+use Rattle.refusals.specs.Writing.{writtenAs}
 use Rattle.frames_tongzhu.specs.declared.Kind.{Kind}
 use Rattle.frames_tongzhu.specs.declared.Kind.the-variants.{Reads, Sets, Unlisted}
 use Rattle.frames_tongzhu.specs.Functions.{kindOf}
@@ -17,28 +15,29 @@ use Rattle.times_tongzhu.specs.Times.{real, timeBytes}
 use Rattle.requests_tongzhu.specs.declared.Request.{Request}
 use Rattle.requests_tongzhu.specs.declared.Request.the-variants.{Ask, SetTime}
 
--- the frame of a request, or why it has none
-pub data Wire : Type 0 where
-  bytes : List ℕ → Wire
-  none : Refusal → Wire
+abbrev pub functionOf : Request → ℕ
+functionOf (Ask f) = f
+functionOf (SetTime t) = 0x30
+
+abbrev pub loadOf : Request → List ℕ
+loadOf (Ask f) = []
+loadOf (SetTime t) = timeBytes t
+
+-- the frame that the document gives for a request
+abbrev pub frameFor : Request → List ℕ
+frameFor q = frameBytes (functionOf q) (loadOf q)
 
 -- asking: a function that is not listed is 7, and 30 without its values is 8
-abbrev pub askWire : Kind → ℕ → Wire
-askWire Reads f = bytes (frameBytes f [])
-askWire Sets f = none (refusedWith shape)
-askWire Unlisted f = none (refusedWith request)
+abbrev pub askFault : Kind → ℕ
+askFault Reads = 0
+askFault Sets = shape
+askFault Unlisted = request
 
--- an unreal date or time is 9
-unfoldable pub wireOf : Request → Wire
-wireOf (Ask f) = askWire (kindOf f) f
-wireOf (SetTime t) = pick (real t) (bytes (frameBytes 0x30 (timeBytes t))) (none (refusedWith range))
+-- the number of the refusal that a request meets whatever the room, 0 where there is none; an unreal date or time is 9
+unfoldable pub faultOf : Request → ℕ
+faultOf (Ask f) = askFault (kindOf f)
+faultOf (SetTime t) = pick (real t) 0 range
 
--- the answer, with so many bytes of room
-unfoldable pub writtenOf : Wire → ℕ → Written
-writtenOf (bytes b) n = pick (ltb n (length b)) (NotWritten (refusedWith room)) (Frame (length b))
-writtenOf (none r) n = NotWritten r
-
--- the room afterwards: the frame in front of what was there past it, or all as it was
-unfoldable pub roomAfter : Wire → List ℕ → List ℕ
-roomAfter (bytes b) out = pick (ltb (length out) (length b)) out (b ++ drop (length b) out)
-roomAfter (none r) out = out
+-- what writing it answers, with so many bytes of room
+abbrev pub sentAs : Request → ℕ → Written
+sentAs q places = writtenAs (faultOf q) (length (frameFor q)) places

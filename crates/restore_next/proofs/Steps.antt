@@ -14,8 +14,9 @@ use denote.Enum.Declared.{tagOf}
 use borrow.Author.Tests.{lt-ltb, le-ltb}
 use Rattle.refusals.specs.declared.Written.{Written}
 use Rattle.refusals.specs.Refused.{refusedWith, room, turn}
+use Rattle.refusals.specs.Writing.{roomAfter}
 use Rattle.requests_pathfinder.specs.declared.Request.the-variants.{Write}
-use Rattle.requests_pathfinder.specs.Requests.{sentAs, roomAfter}
+use Rattle.requests_pathfinder.specs.Requests.{frameFor, sentAs}
 use Rattle.restore_order.specs.Slots.{slots, at, writes, isIn, apart}
 use Rattle.restore_order.specs.Machine as M
 use Rattle.restore_order.proofs.Ordering.{in-below, first-in}
@@ -74,7 +75,7 @@ module _ (j : Job) (out : List ℕ) where
       -- one write: what the writer of requests gives for it
       pub one-write : 11 ≤ length out → (written : Written) → written ≡ sentAs (Write r (at (j .wanted) r)) (length out)
           → (sentOf j (record { present = j .present; wanted = j .wanted; phase = Waiting r }) written ≡ nextOf j (length out))
-          × (roomAfter written (Write r (at (j .wanted) r)) out ≡ roomOf j out)
+          × (roomAfter written (frameFor (Write r (at (j .wanted) r))) out ≡ roomOf j out)
       one-write h written e = rw e (by-asked (M.write r (at (j .wanted) r)) (asks false (le-ltb (length out) 11 h)))
 
 -- what is written first is a setting

@@ -5,8 +5,9 @@ use Prim.Native.Nat.{ℕ}
 use lib.ListN.{length}
 use Rattle.refusals.specs.declared.Written.{Written}
 use Rattle.refusals.specs.declared.Written.the-variants.{Frame as HasFrame, Refused as NoFrame}
+use Rattle.refusals.specs.Writing.{roomAfter}
 use Rattle.requests_pathfinder.specs.declared.Request.the-variants.{Write}
-use Rattle.requests_pathfinder.specs.Requests.{sentAs, roomAfter}
+use Rattle.requests_pathfinder.specs.Requests.{frameFor, sentAs}
 use Rattle.restore_order.specs.Slots.{slots}
 use Rattle.restore_order.specs.Machine as M
 use Rattle.restore_jobs.specs.declared.Job.{Job}
@@ -29,7 +30,7 @@ abbrev pub nextOf : Job → ℕ → Stepped
 nextOf j places = stepFor j places (M.asked slots places (machine j))
 
 abbrev pub roomFor : M.Asked → List ℕ → List ℕ
-roomFor (M.write r v) out = roomAfter (sentAs (Write r v) (length out)) (Write r v) out
+roomFor (M.write r v) out = roomAfter (sentAs (Write r v) (length out)) (frameFor (Write r v)) out
 roomFor M.done out = out
 roomFor (M.declined why) out = out
 

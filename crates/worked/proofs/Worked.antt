@@ -10,7 +10,7 @@ use Rattle.calendar.specs.Decimal.{bcdByte}
 use Rattle.calendar.specs.Dates.{leap, days, daysIn, realDate, realTime}
 use Rattle.frames_tongzhu.specs.Functions.{kindOf}
 use Rattle.frames_written_tongzhu.specs.Writing.{frameBytes}
-use Rattle.requests_tongzhu.specs.Requests.{wireOf}
+use Rattle.requests_tongzhu.specs.Requests.{faultOf}
 use Rattle.characters_pace.specs.Characters.{allOf, halves}
 use Rattle.rows_pace.specs.Rows.{rowOf}
 use Rattle.writes_pace.specs.Info.{payload}
@@ -23,7 +23,7 @@ use Rattle.worked.specs.Examples.{alike, every, worked}
 pub worked-examples-hold : every worked ≡ true
 unfolding
     shift shifts crcFrom crcOf total wordOf
-    bcdByte leap days daysIn realDate realTime kindOf frameBytes wireOf
+    bcdByte leap days daysIn realDate realTime kindOf frameBytes faultOf
     allOf halves firsts rowOf payload shaped amountOf replyOf tenthsOf
     twoAt currentOf currentAt
     writes

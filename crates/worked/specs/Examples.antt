@@ -12,8 +12,9 @@ use Rattle.lengths_pace.specs.declared.Length.the-variants as lengths
 use Rattle.lengths_pace.specs.Lengths.{wordOf}
 use Rattle.calendar.specs.Dates.{realDate}
 use Rattle.times_tongzhu.specs.declared.Time.{Time}
+use Rattle.requests_tongzhu.specs.declared.Request.{Request}
 use Rattle.requests_tongzhu.specs.declared.Request.the-variants.{Ask, SetTime}
-use Rattle.requests_tongzhu.specs.Requests.{Wire, bytes, none, wireOf}
+use Rattle.requests_tongzhu.specs.Requests.{frameFor, faultOf}
 use Rattle.characters_pace.specs.Characters.{hexed}
 use Rattle.rows_pace.specs.declared.Setting.the-variants.{Discharge}
 use Rattle.rows_pace.specs.Rows.{amountsOf}
@@ -42,10 +43,9 @@ abbrev pub isWord : Length → ℕ → Bool
 isWord (lengths.Is w) n = eqb w n
 isWord lengths.Wrong n = false
 
--- a frame, and of these bytes
-abbrev pub isFrame : Wire → List ℕ → Bool
-isFrame (bytes b) s = alike b s
-isFrame (none r) s = false
+-- a request without fault, and its frame is these bytes
+abbrev pub isFrame : Request → List ℕ → Bool
+isFrame q s = eqb (faultOf q) 0 && alike (frameFor q) s
 
 -- values, with these amounts, and with these bytes as they are written back
 abbrev pub isSetting : Found → List ℕ → List ℕ → Bool
@@ -80,8 +80,8 @@ worked =
     eqb (crcOf (0x01 ∷ 0x05 ∷ [])) 0x6394
     ∷ eqb (crcOf (0x06 ∷ 0x0E ∷ 0x03 ∷ 0x38 ∷ 0x00 ∷ 0x00 ∷ 0x00 ∷ [])) 0x667E
     -- P3, P4: the frames of function 12 and of setting the time (002)
-    ∷ isFrame (wireOf (Ask 0x12)) (0x7F ∷ 0x10 ∷ 0x02 ∷ 0x06 ∷ 0x12 ∷ 0x57 ∷ [])
-    ∷ isFrame (wireOf (SetTime noted)) (0x7F ∷ 0x10 ∷ 0x02 ∷ 0x0C ∷ 0x30 ∷ 0x17 ∷ 0x05 ∷ 0x12 ∷ 0x10 ∷ 0x30 ∷ 0x50 ∷ 0x75 ∷ [])
+    ∷ isFrame (Ask 0x12) (0x7F ∷ 0x10 ∷ 0x02 ∷ 0x06 ∷ 0x12 ∷ 0x57 ∷ [])
+    ∷ isFrame (SetTime noted) (0x7F ∷ 0x10 ∷ 0x02 ∷ 0x0C ∷ 0x30 ∷ 0x17 ∷ 0x05 ∷ 0x12 ∷ 0x10 ∷ 0x30 ∷ 0x50 ∷ 0x75 ∷ [])
     -- P5: LENGTH for 7A characters; P6: CHKSUM of the characters 25014642E00201 (004)
     ∷ isWord (wordOf 0x7A) 0xF07A
     ∷ eqb (closing 65536 (total (hexed (0x25 ∷ 0x01 ∷ 0x46 ∷ 0x42 ∷ 0xE0 ∷ 0x02 ∷ 0x01 ∷ [])))) 0xFD30

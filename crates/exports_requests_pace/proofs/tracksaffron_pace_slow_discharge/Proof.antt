@@ -1,7 +1,8 @@
 -- `exports_requests_pace::tracksaffron_pace_slow_discharge` meets its contract: what the request writer answers and leaves, its answer as a number.
 -- Assumes nothing.
 use mathlib.Core.Path.{ap, _∙_}
-use Rattle.requests_pace.specs.Request.{roomAfter}
+use Rattle.refusals.specs.Writing.{roomAfter}
+use Rattle.requests_pace.specs.Request.{frameFor}
 use Rattle.exports_rows.specs.Writing.{writtenCode}
 use Rattle.exports_requests_pace.specs.Requests.{discharge}
 use borrow.Author.Needs.{needs}
@@ -21,7 +22,7 @@ returns : tie.Need-returns
 returns c =
     let a = c .before .before .before .before .before .before .args in
     let e = c .before .before .before .write-request .ensures in
-    (c .written-number .ensures ∙ ap writtenCode (e .0), e .1 ∙ ap (λ w. roomAfter w (discharge (a .address) (a .alarm) (a .protect) (a .delay)) (a .out .now)) (e .0))
+    (c .written-number .ensures ∙ ap writtenCode (e .0), e .1 ∙ ap (λ w. roomAfter w (frameFor (discharge (a .address) (a .alarm) (a .protect) (a .delay))) (a .out .now)) (e .0))
 
 pub tracksaffron-pace-slow-discharge-spec : {M : Type 1} → statement M
 tracksaffron-pace-slow-discharge-spec =

@@ -5,9 +5,10 @@ use lib.ListN.{length}
 use mir.Syntax.{w32}
 use mir.ValLaws.{toZ-ofZ}
 use Rattle.refusals.specs.declared.Written.{Written}
+use Rattle.refusals.specs.Writing.{roomAfter}
 use Rattle.requests_pathfinder.specs.declared.Request.{Request}
 use Rattle.requests_pathfinder.specs.declared.Request.the-variants.{Write}
-use Rattle.requests_pathfinder.specs.Requests.{sentAs, roomAfter}
+use Rattle.requests_pathfinder.specs.Requests.{frameFor, sentAs}
 use Rattle.exports_rows.specs.Writing.{writtenCode}
 use borrow.Author.Needs.{needs}
 use Rattle.exports_requests_pathfinder.proofs.tracksaffron_pf_write.Statement.{statement}
@@ -29,8 +30,8 @@ returns c =
     let e = c .before .before .before .write-set .ensures in
     let s = e .0 ∙ ap (λ (x : Request). sentAs x (length (a .out .now))) q in (
       c .written-number .ensures ∙ ap writtenCode s,
-      e .1 ∙ ap (λ (x : Request). roomAfter (c .before .before .before .write-set .result) x (a .out .now)) q
-          ∙ ap (λ (r : Written). roomAfter r (Write (a .register) (a .value)) (a .out .now)) s,
+      e .1 ∙ ap (λ (x : Request). roomAfter (c .before .before .before .write-set .result) (frameFor x) (a .out .now)) q
+          ∙ ap (λ (r : Written). roomAfter r (frameFor (Write (a .register) (a .value))) (a .out .now)) s,
     )
 
 pub tracksaffron-pf-write-spec : {M : Type 1} → statement M

@@ -1,66 +1,53 @@
--- `frames_written_pace::seal` meets its contract: the sum is taken of the lent part, and its characters and the last mark stand behind it.
+-- `frames_written_pace::seal` meets its contract: the sum is taken of the lent part, and the part for its characters and the last mark comes back
+-- written.
 -- Assumes nothing.
+use Rattle.frames_written_pace.proofs.Writing.{sealed-is}
 use borrow.Author.Needs.{needs}
-use Rattle.frames_written_pace.proofs.Writing.{seal-is}
-use native.Mathlib.Omega.{arith}
 use Rattle.frames_written_pace.proofs.seal.Statement.{statement}
 use Rattle.frames_written_pace.proofs.seal.Tie as tie
 
 add-close65536 : tie.Need-add-close65536
-add-close65536 c = omega arith
+add-close65536 c = search needs
 
 sub-close65536 : tie.Need-sub-close65536
-sub-close65536 c = omega arith
+sub-close65536 c = search needs
 
 part-close65536-start : tie.Need-part-close65536-start
-part-close65536-start c = omega arith
+part-close65536-start c = search needs
 
 part-close65536-end : tie.Need-part-close65536-end
-part-close65536-end c = omega arith
+part-close65536-end c = search needs
 
 close65536-requires : tie.Need-close65536-requires
-close65536-requires c κs = tt
+close65536-requires c κs = search needs
 
-bytes16-requires : tie.Need-bytes16-requires
-bytes16-requires c κs = tt
+add-put-end : tie.Need-add-put-end
+add-put-end c = search needs
 
-slice-aggregate-put-hex : tie.Need-slice-aggregate-put-hex
-slice-aggregate-put-hex c = search needs
+add-put-end-2 : tie.Need-add-put-end-2
+add-put-end-2 c = search needs
 
-add-put-hex : tie.Need-add-put-hex
-add-put-hex c = omega arith
+sub-put-end : tie.Need-sub-put-end
+sub-put-end c = search needs
 
-add-put-hex-2 : tie.Need-add-put-hex-2
-add-put-hex-2 c = omega arith
+part-put-end-start : tie.Need-part-put-end-start
+part-put-end-start c = search needs
 
-sub-put-hex : tie.Need-sub-put-hex
-sub-put-hex c = omega arith
+part-put-end-end : tie.Need-part-put-end-end
+part-put-end-end c = search needs
 
-part-put-hex-start : tie.Need-part-put-hex-start
-part-put-hex-start c = omega arith
-
-part-put-hex-end : tie.Need-part-put-hex-end
-part-put-hex-end c = omega arith
-
-put-hex-requires : tie.Need-put-hex-requires
-put-hex-requires c κs = tt
-
-add-out : tie.Need-add-out
-add-out c = omega arith
-
-slice-write-out : tie.Need-slice-write-out
-slice-write-out c = omega arith
+put-end-requires : tie.Need-put-end-requires
+put-end-requires c κs = search needs
 
 same-length : tie.Need-same-length
 same-length c = search needs
 
 returns : tie.Need-returns
 returns c =
-    let put = c .before .before in
-    let sized = put .before .before .before in
-    let summed = sized .before in
-    let start = summed .before .before .before .before in
-    seal-is (start .args .out .now) _ _ (start .args .n) _ (start .pre) (put .put-hex .ensures) (sized .bytes16 .ensures) (summed .close65536 .ensures)
+    let end = c .before .before .put-end in
+    let summed = c .before .before .before .before in
+    let a = summed .before .before .before .before .args in
+    sealed-is (a .out .now) _ (a .n) _ (end .ensures) (summed .close65536 .ensures)
 
 pub seal-spec : {M : Type 1} → statement M
 seal-spec =
@@ -71,15 +58,11 @@ seal-spec =
     part-close65536-start
     part-close65536-end
     close65536-requires
-    bytes16-requires
-    slice-aggregate-put-hex
-    add-put-hex
-    add-put-hex-2
-    sub-put-hex
-    part-put-hex-start
-    part-put-hex-end
-    put-hex-requires
-    add-out
-    slice-write-out
+    add-put-end
+    add-put-end-2
+    sub-put-end
+    part-put-end-start
+    part-put-end-end
+    put-end-requires
     same-length
     returns)

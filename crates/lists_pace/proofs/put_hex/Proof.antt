@@ -1,15 +1,17 @@
 -- `lists_pace::put_hex` meets its contract. The loop's invariant: the characters of the bytes passed stand in front of what was there.
 -- Assumes nothing.
 use Prim.Native.Nat.{ℕ, _+_, _-_, _*_, _/_, _%_, _≤_}
-use mathlib.Core.Path.{_≡_, refl, ap, _∙_}
+use mathlib.Core.Path.{_≡_, refl, sym, ap, ap₂, _∙_}
 use mathlib.Core.List.{List, _++_}
 use native.Mathlib.Omega.{arith}
 use lib.ListN.{length, getD, take, drop, length-set}
 use lib.Seq.{take-all}
 use borrow.Author.Needs.{needs}
-use borrow.Author.Tests.{lt-ltb, le-ltb}
+use Rattle.refusals.specs.declared.Written.the-variants.{Frame}
+use Rattle.refusals.proofs.Writing.{no-room, fits}
 use Rattle.digits.specs.Hexes.{charOf}
 use Rattle.characters_pace.specs.Characters.{halves, hexed}
+use Rattle.characters_pace.proofs.Carried.{hexed-length}
 use Rattle.characters_pace.proofs.Halves.{halves-more}
 use Rattle.lists_pace.proofs.put_hex.Statement.{statement}
 use Rattle.lists_pace.proofs.put_hex.Tie as tie
@@ -20,8 +22,11 @@ Inv-loop bytes out₀ i₀ out i = (i ≤ length bytes) × ((out ≡ hexed (take
 abbrev μ-loop : tie.MeasureT-loop
 μ-loop bytes out₀ i₀ out i = length bytes - i
 
+refuse-requires : tie.Need-refuse-requires Inv-loop μ-loop
+refuse-requires c κs = tt
+
 returns : tie.Need-returns Inv-loop μ-loop
-returns c = rw (lt-ltb _ _ (c .if1 .taken))
+returns c = let a = c .before .before .before .before .args in rw (c .refuse .ensures) (no-room 0 (length (hexed (a .bytes .now))) _ refl (omega (arith, hexed-length (a .bytes .now))), refl)
 
 loop-holds : tie.Need-loop-holds Inv-loop μ-loop
 unfolding halves
@@ -72,6 +77,9 @@ loop-again c =
       ),
     )
 
+mul-t6 : tie.Need-mul-t6 Inv-loop μ-loop
+mul-t6 c = omega arith
+
 same-length : tie.Need-same-length Inv-loop μ-loop
 same-length c = omega arith
 
@@ -79,9 +87,12 @@ returns-2 : tie.Need-returns-2 Inv-loop μ-loop
 returns-2 c =
     let a = c .before .before .before .before .before .args in
     let l = c .before .loop in
-    let at : l .i ≡ length (a .bytes .now) = omega arith in
-    let done = take-all (l .i) (a .bytes .now) (omega arith) in
-    l .inv .1 .0 ∙ rw (done, at, le-ltb _ _ (c .before .before .if1 .left))
+    let bytes = a .bytes .now in
+    let at : 2 * l .i ≡ 2 * length bytes = omega arith in
+    let done = take-all (l .i) bytes (omega arith) in (
+      ap Frame (sym (hexed-length bytes)) ∙ fits 0 (length (hexed bytes)) (length (a .out .now)) refl (omega (arith, hexed-length bytes)),
+      l .inv .1 .0 ∙ ap₂ (λ (b : List ℕ) (k : ℕ). hexed b ++ drop k (a .out .now)) done at,
+    )
 
 pub put-hex-spec : {M : Type 1} → statement M
 put-hex-spec =
@@ -89,6 +100,7 @@ put-hex-spec =
     (tie.spec
     Inv-loop
     μ-loop
+    refuse-requires
     returns
     loop-holds
     shared-slice-read-write-byte
@@ -103,5 +115,6 @@ put-hex-spec =
     add-i
     loop-less
     loop-again
+    mul-t6
     same-length
     returns-2)

@@ -1,18 +1,21 @@
 -- `requests_pace::write_ask` meets its contract: by the kind of the command, the frame by its writer's contract.
 -- Assumes nothing.
 use mathlib.Core.Path.{_≡_, refl, sym, ap, _∙_}
-use Rattle.refusals.specs.declared.Written.the-variants.{Refused}
+use native.Mathlib.Omega.{arith}
+use Rattle.refusals.specs.Refused.{request, shape}
+use Rattle.refusals.proofs.Writing.{faulty}
 use Rattle.rows_pace.specs.Commands.{commandOf}
 use Rattle.requests_pace.specs.declared.Kind.{Kind}
-use Rattle.requests_pace.specs.Request.{kindOf}
-use Rattle.requests_pace.proofs.Writing.{ask-refused, ask-written}
+use Rattle.requests_pace.specs.declared.Request.the-variants.{Ask}
+use Rattle.requests_pace.specs.Request.{kindOf, askInfo}
+use Rattle.requests_pace.proofs.Writing.{ask-fault, sent}
 use borrow.Author.Needs.{needs}
 use Rattle.requests_pace.proofs.write_ask.Statement.{statement}
 use Rattle.requests_pace.proofs.write_ask.Tie as tie
 
 -- the kind of the command
-known : (c : tie.After-kind-of) (k : Kind) → c .kind-of .result ≡ k → kindOf (commandOf (c .before .before .before .args .command)) ≡ k
-known c k e = sym (c .kind-of .ensures ∙ ap kindOf (c .before .command-of .ensures)) ∙ e
+known : (c : tie.After-kind-of) (k : Kind) → c .kind-of .result ≡ k → k ≡ kindOf (commandOf (c .before .before .before .args .command))
+known c k e = sym e ∙ c .kind-of .ensures ∙ ap kindOf (c .before .command-of .ensures)
 
 command-of-requires : tie.Need-command-of-requires
 command-of-requires c κs = search needs
@@ -70,7 +73,9 @@ returns c =
     let w = c .before .before in
     let told = w .before .before .before .before in
     let k = told .before .before in
-    ask-written _ _ _ (known k _ (told .enum-told .given .1)) _ _ _ _ refl refl (w .write-frame .ensures .0) (w .write-frame .ensures .1)
+    let a = k .before .before .before .args in
+    let is = known k _ (told .enum-told .given .1) in
+    sent (Ask (a .address) (a .command)) _ (a .out .now) _ _ (ask-fault _ _ _ is) (ap (λ (x : Kind). askInfo x (a .address)) is) (w .write-frame .ensures .0) (w .write-frame .ensures .1)
 
 same-length-2 : tie.Need-same-length-2
 same-length-2 c = search needs
@@ -80,17 +85,19 @@ returns-2 c =
     let w = c .before .before in
     let told = w .before .before .before .before in
     let k = told .before .before in
-    ask-written _ _ _ (known k _ (told .enum-told2 .given .1)) _ _ _ _ refl refl (w .write-frame2 .ensures .0) (w .write-frame2 .ensures .1)
+    let a = k .before .before .before .args in
+    let is = known k _ (told .enum-told2 .given .1) in
+    sent (Ask (a .address) (a .command)) _ (a .out .now) _ _ (ask-fault _ _ _ is) (ap (λ (x : Kind). askInfo x (a .address)) is) (w .write-frame2 .ensures .0) (w .write-frame2 .ensures .1)
 
 returns-3 : tie.Need-returns-3
 returns-3 c =
     let told = c .before in
-    (ap Refused (c .refuse .ensures) ∙ ask-refused _ _ _ (known (told .before .before) _ (told .enum-told3 .given .1)) _ _ refl, refl)
+    rw (c .refuse .ensures) (faulty _ _ _ shape (ask-fault _ _ _ (known (told .before .before) _ (told .enum-told3 .given .1))) (λ h. omega arith), refl)
 
 returns-4 : tie.Need-returns-4
 returns-4 c =
     let told = c .before in
-    (ap Refused (c .refuse2 .ensures) ∙ ask-refused _ _ _ (known (told .before .before) _ (told .enum-told4 .given .1)) _ _ refl, refl)
+    rw (c .refuse2 .ensures) (faulty _ _ _ request (ask-fault _ _ _ (known (told .before .before) _ (told .enum-told4 .given .1))) (λ h. omega arith), refl)
 
 pub write-ask-spec : {M : Type 1} → statement M
 write-ask-spec =

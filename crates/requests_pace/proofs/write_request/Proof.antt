@@ -1,8 +1,10 @@
 -- `requests_pace::write_request` meets its contract: by the request.
 -- Assumes nothing.
 use mathlib.Core.Path.{sym, ap, _∙_}
+use lib.ListN.{length}
+use Rattle.refusals.specs.Writing.{roomAfter}
 use Rattle.requests_pace.specs.declared.Request.{Request}
-use Rattle.requests_pace.specs.Request.{writtenOf, roomAfter}
+use Rattle.requests_pace.specs.Request.{frameFor, sentAs}
 use borrow.Author.Needs.{needs}
 use Rattle.requests_pace.proofs.write_request.Statement.{statement}
 use Rattle.requests_pace.proofs.write_request.Tie as tie
@@ -27,8 +29,8 @@ returns c =
     let w = c .before .before in
     let told = w .before .before .before in
     let out = told .before .before .before .args .out .now in (
-      w .write-ask .ensures .0 ∙ sym (ap (λ (q : Request). writtenOf q out) (told .q .given .1)),
-      w .write-ask .ensures .1 ∙ sym (ap (λ (q : Request). roomAfter (w .write-ask .result) q out) (told .q .given .1)),
+      w .write-ask .ensures .0 ∙ sym (ap (λ (q : Request). sentAs q (length out)) (told .q .given .1)),
+      w .write-ask .ensures .1 ∙ sym (ap (λ (q : Request). roomAfter (w .write-ask .result) (frameFor q) out) (told .q .given .1)),
     )
 
 same-length-2 : tie.Need-same-length-2
@@ -39,8 +41,8 @@ returns-2 c =
     let w = c .before .before in
     let told = w .before .before .before in
     let out = told .before .before .before .args .out .now in (
-      w .write-values .ensures .0 ∙ sym (ap (λ (q : Request). writtenOf q out) (told .q2 .given .1)),
-      w .write-values .ensures .1 ∙ sym (ap (λ (q : Request). roomAfter (w .write-values .result) q out) (told .q2 .given .1)),
+      w .write-values .ensures .0 ∙ sym (ap (λ (q : Request). sentAs q (length out)) (told .q2 .given .1)),
+      w .write-values .ensures .1 ∙ sym (ap (λ (q : Request). roomAfter (w .write-values .result) (frameFor q) out) (told .q2 .given .1)),
     )
 
 pub write-request-spec : {M : Type 1} → statement M

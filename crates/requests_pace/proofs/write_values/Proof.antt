@@ -1,9 +1,17 @@
 -- `requests_pace::write_values` meets its contract: the values may be written, and the part that is lent is their INFO.
 -- Assumes nothing.
 use mathlib.Core.Path.{refl, sym, ap, _∙_}
+use Prim.Native.Nat.{ℕ, _-_}
+use native.Mathlib.Omega.{arith}
+use lib.ListN.{take}
 use borrow.Author.Tests.{not-true, not-false}
-use Rattle.refusals.specs.declared.Written.the-variants.{Refused}
-use Rattle.requests_pace.proofs.Writing.{values-refused, info-fits, values-written}
+use Rattle.refusals.specs.Refused.{range}
+use Rattle.refusals.specs.Writing.{roomAfter}
+use Rattle.refusals.proofs.Writing.{faulty}
+use Rattle.frames_written_pace.specs.Written.{frameChars}
+use Rattle.writes_pace.specs.declared.Info.{Info}
+use Rattle.requests_pace.specs.declared.Request.the-variants.{Set}
+use Rattle.requests_pace.proofs.Writing.{right-values, wrong-values, sent, info-fits, info-lent}
 use borrow.Author.Needs.{needs}
 use Rattle.requests_pace.proofs.write_values.Statement.{statement}
 use Rattle.requests_pace.proofs.write_values.Tie as tie
@@ -15,7 +23,7 @@ refuse-requires : tie.Need-refuse-requires
 refuse-requires c κs = search needs
 
 returns : tie.Need-returns
-returns c = (ap Refused (c .refuse .ensures) ∙ values-refused _ _ _ (sym (c .before .before .may-write .ensures) ∙ not-true _ (c .before .if1 .taken)), refl)
+returns c = rw (c .refuse .ensures) (faulty _ _ _ range (wrong-values _ _ (sym (c .before .before .may-write .ensures) ∙ not-true _ (c .before .if1 .taken))) (λ h. omega arith), refl)
 
 info-of-requires : tie.Need-info-of-requires
 info-of-requires c κs = search needs
@@ -27,7 +35,7 @@ part-write-frame-start : tie.Need-part-write-frame-start
 part-write-frame-start c = search needs
 
 part-write-frame-end : tie.Need-part-write-frame-end
-part-write-frame-end c = let i = c .before .before in let a = i .before .before .before .before .args in info-fits (a .address) (a .values) (a .out .now) (i .info-of .result) (i .info-of .ensures)
+part-write-frame-end c = let i = c .before .before in let a = i .before .before .before .before .args in info-fits (a .values) (i .info-of .result) (i .info-of .ensures)
 
 write-frame-requires : tie.Need-write-frame-requires
 write-frame-requires c κs = search needs
@@ -41,7 +49,10 @@ returns-2 c =
     let i = w .before .before .before .before .before in
     let one = i .before in
     let a = one .before .before .before .args in
-    values-written (a .address) (a .values) (a .out .now) (i .info-of .result) (i .info-of .ensures) (sym (one .before .may-write .ensures) ∙ not-false _ (one .if1 .left)) _ (w .write-frame .result) (w .write-frame .ensures .0) (w .write-frame .ensures .1)
+    let right = right-values (a .address) (a .values) (sym (one .before .may-write .ensures) ∙ not-false _ (one .if1 .left)) in
+    let command = ap (λ (y : Info). y .command) (i .info-of .ensures) in
+    sent (Set (a .address) (a .values)) _ (a .out .now) _ _ right (info-lent (a .values) (i .info-of .result) (i .info-of .ensures)) (w .write-frame .ensures .0)
+    (w .write-frame .ensures .1 ∙ ap (λ (n : ℕ). roomAfter (w .write-frame .result) (frameChars (a .address) n (take (i .info-of .result .len - 0) (i .info-of .result .bytes))) (a .out .now)) command)
 
 pub write-values-spec : {M : Type 1} → statement M
 write-values-spec =

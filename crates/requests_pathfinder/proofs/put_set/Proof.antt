@@ -1,10 +1,11 @@
 -- `requests_pathfinder::put_set` meets its contract: five stores write the whole part.
 -- Assumes nothing.
-use mathlib.Core.Path.{_≡_, ap, _∙_}
+use mathlib.Core.Path.{ap, _∙_}
 use Prim.Native.Nat.{ℕ}
-use mathlib.Core.List.{List}
+use mathlib.Core.List.{List, [], _∷_}
 use native.Mathlib.Omega.{arith}
 use lib.ListN.{getD, length-set}
+use lib.Seq.{sets}
 use mir.Syntax.{w32}
 use mir.ValLaws.{toZ-ofZ}
 use Rattle.signs.specs.Signed.{bitsOf}
@@ -57,8 +58,8 @@ returns c =
     let a = c .before .before .before .args in
     let held = toZ-ofZ w32 (a .value) (c .before .before .before .fits .value) in
     let e = c .bytes32 .ensures ∙ ap (bytesOf LowFirst 4) (c .before .bits32 .ensures ∙ ap (bitsOf 32) held) in
-    let at : (i : ℕ) → getD (c .bytes32 .result) i 0 ≡ getD (bytesOf LowFirst 4 (bitsOf 32 (a .value))) i 0 = λ i. ap (λ (l : List ℕ). getD l i 0) e in
-    rw (at 0, at 1, at 2, at 3) (all-of (setLoad (a .register) (a .value)) (a .out .now) (c .before .before .before .pre))
+    ap (λ (l : List ℕ). sets (a .out .now) 0 (a .register ∷ getD l 0 0 ∷ getD l 1 0 ∷ getD l 2 0 ∷ getD l 3 0 ∷ [])) e
+    ∙ all-of (setLoad (a .register) (a .value)) (a .out .now) (c .before .before .before .pre)
 
 pub put-set-spec : {M : Type 1} → statement M
 put-set-spec =

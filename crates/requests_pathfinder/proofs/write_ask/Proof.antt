@@ -1,8 +1,9 @@
 -- `requests_pathfinder::write_ask` meets its contract: a fault refuses and changes nothing; else the frame.
 -- Assumes nothing.
 use mathlib.Core.Path.{refl, _∙_}
+use Rattle.refusals.proofs.Writing.{faulty}
 use Rattle.requests_pathfinder.specs.declared.Request.the-variants.{Ask}
-use Rattle.requests_pathfinder.proofs.Judged.{faulty, sound}
+use Rattle.requests_pathfinder.proofs.Made.{sent}
 use borrow.Author.Needs.{needs}
 use Rattle.requests_pathfinder.proofs.write_ask.Statement.{statement}
 use Rattle.requests_pathfinder.proofs.write_ask.Tie as tie
@@ -15,8 +16,7 @@ not-written-requires c κs = search needs
 
 returns : tie.Need-returns
 returns c =
-    let a = c .before .before .before .before .args in
-    rw (c .not-written .ensures) (faulty (Ask (a .opcode)) _ _ (c .before .before .fault-of-ask .ensures) (c .before .if1 .taken), refl)
+    rw (c .not-written .ensures) (faulty _ _ _ _ (c .before .before .fault-of-ask .ensures) (c .before .if1 .taken), refl)
 
 ask-frame-requires : tie.Need-ask-frame-requires
 ask-frame-requires c κs = search needs
@@ -29,7 +29,7 @@ returns-2 c =
     let known = c .before .before .before .before .before in
     let a = known .before .before .args in
     let w = c .before .before .ask-frame in
-    (w .ensures .0 ∙ sound (Ask (a .opcode)) _ _ (known .fault-of-ask .ensures) (c .before .before .before .before .if1 .left), w .ensures .1)
+    (w .ensures .0 ∙ sent (Ask (a .opcode)) _ _ (known .fault-of-ask .ensures) (c .before .before .before .before .if1 .left), w .ensures .1)
 
 pub write-ask-spec : {M : Type 1} → statement M
 write-ask-spec =

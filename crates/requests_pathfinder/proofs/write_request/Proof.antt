@@ -4,9 +4,10 @@ use mathlib.Core.Path.{sym, ap, _∙_}
 use lib.ListN.{length}
 use mir.Syntax.{w32}
 use mir.ValLaws.{toZ-ofZ}
+use Rattle.refusals.specs.Writing.{roomAfter}
 use Rattle.requests_pathfinder.specs.declared.Request.{Request}
 use Rattle.requests_pathfinder.specs.declared.Request.the-variants.{Write}
-use Rattle.requests_pathfinder.specs.Requests.{sentAs, roomAfter}
+use Rattle.requests_pathfinder.specs.Requests.{frameFor, sentAs}
 use borrow.Author.Needs.{needs}
 use Rattle.requests_pathfinder.proofs.write_request.Statement.{statement}
 use Rattle.requests_pathfinder.proofs.write_request.Tie as tie
@@ -32,7 +33,7 @@ returns c =
     let w = c .before .before .write-ask in
     let e = sym (c .before .before .before .before .before .q .given .1) in (
       w .ensures .0 ∙ ap (λ (x : Request). sentAs x (length (a .out .now))) e,
-      w .ensures .1 ∙ ap (λ (x : Request). roomAfter (w .result) x (a .out .now)) e,
+      w .ensures .1 ∙ ap (λ (x : Request). roomAfter (w .result) (frameFor x) (a .out .now)) e,
     )
 
 same-length-2 : tie.Need-same-length-2
@@ -46,7 +47,7 @@ returns-2 c =
     let held = toZ-ofZ w32 (q .0 .1 .0) (search needs) in
     let e = ap (Write (q .0 .0)) held ∙ sym (q .1) in (
       w .ensures .0 ∙ ap (λ (x : Request). sentAs x (length (a .out .now))) e,
-      w .ensures .1 ∙ ap (λ (x : Request). roomAfter (w .result) x (a .out .now)) e,
+      w .ensures .1 ∙ ap (λ (x : Request). roomAfter (w .result) (frameFor x) (a .out .now)) e,
     )
 
 pub write-request-spec : {M : Type 1} → statement M

@@ -36,8 +36,8 @@ returns-2 c =
     ∙ timed-wrong _ _ (sym (c .before .before .enum-told2 .given .1) ∙ c .before .before .before .before .kind-of .ensures)
     (c .before .if2 .taken)
 
-time-in-requires : tie.Need-time-in-requires
-time-in-requires c κs = search needs
+time-of-requires : tie.Need-time-of-requires
+time-of-requires c κs = search needs
 
 time-request-requires : tie.Need-time-request-requires
 time-request-requires c κs = search needs
@@ -53,7 +53,7 @@ returns-3 c = asked _ _ (sym (c .before .enum-told .given .1) ∙ c .before .bef
 
 returns-4 : tie.Need-returns-4
 returns-4 c =
-    c .time-request .ensures ∙ ap timeRequest (c .before .time-in .ensures)
+    c .time-request .ensures ∙ ap timeRequest (c .before .time-of .ensures)
     ∙ timed _ _ (sym (c .before .before .before .enum-told2 .given .1) ∙ c .before .before .before .before .before .kind-of .ensures)
     (c .before .before .if2 .left)
 
@@ -72,7 +72,7 @@ payload-in-spec =
     enum-told-2
     refuse-requires-2
     returns-2
-    time-in-requires
+    time-of-requires
     time-request-requires
     enum-told-3
     refuse-requires-3

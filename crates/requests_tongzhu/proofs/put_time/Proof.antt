@@ -1,79 +1,81 @@
 -- `requests_tongzhu::put_time` meets its contract: six stores write the part whole.
 -- Assumes nothing.
+use mathlib.Core.List.{List, [], _∷_}
+use mathlib.Core.Path.{ap, _∙_}
+use Prim.Native.Nat.{ℕ}
 use native.Mathlib.Omega.{arith}
+use lib.ListN.{getD, length-set}
+use lib.Seq.{sets}
+use Rattle.requests_tongzhu.proofs.Made.{stored}
 use borrow.Author.Needs.{needs}
-use lib.ListN.{length-set}
-use Rattle.requests_tongzhu.proofs.Wires.{stored}
 use Rattle.requests_tongzhu.proofs.put_time.Statement.{statement}
 use Rattle.requests_tongzhu.proofs.put_time.Tie as tie
 
-to-bcd-requires : tie.Need-to-bcd-requires
-to-bcd-requires c κs = search needs
+time-bytes-requires : tie.Need-time-bytes-requires
+time-bytes-requires c κs = search needs
+
+array-read-out : tie.Need-array-read-out
+array-read-out c = search needs
 
 slice-write-out : tie.Need-slice-write-out
 slice-write-out c = search needs
 
-to-bcd-requires-2 : tie.Need-to-bcd-requires-2
-to-bcd-requires-2 c κs = search needs
+array-read-out-2 : tie.Need-array-read-out-2
+array-read-out-2 c = search needs
 
 slice-write-out-2 : tie.Need-slice-write-out-2
 slice-write-out-2 c = search needs
 
-to-bcd-requires-3 : tie.Need-to-bcd-requires-3
-to-bcd-requires-3 c κs = search needs
+array-read-out-3 : tie.Need-array-read-out-3
+array-read-out-3 c = search needs
 
 slice-write-out-3 : tie.Need-slice-write-out-3
 slice-write-out-3 c = search needs
 
-to-bcd-requires-4 : tie.Need-to-bcd-requires-4
-to-bcd-requires-4 c κs = search needs
+array-read-out-4 : tie.Need-array-read-out-4
+array-read-out-4 c = search needs
 
 slice-write-out-4 : tie.Need-slice-write-out-4
 slice-write-out-4 c = search needs
 
-to-bcd-requires-5 : tie.Need-to-bcd-requires-5
-to-bcd-requires-5 c κs = search needs
+array-read-out-5 : tie.Need-array-read-out-5
+array-read-out-5 c = search needs
 
 slice-write-out-5 : tie.Need-slice-write-out-5
 slice-write-out-5 c = simp length-set (omega arith)
 
-to-bcd-requires-6 : tie.Need-to-bcd-requires-6
-to-bcd-requires-6 c κs = search needs
+array-read-out-6 : tie.Need-array-read-out-6
+array-read-out-6 c = search needs
 
 slice-write-out-6 : tie.Need-slice-write-out-6
 slice-write-out-6 c = simp length-set (omega arith)
 
 same-length : tie.Need-same-length
-same-length c = search needs
+same-length c = simp length-set
 
 returns : tie.Need-returns
 returns c =
-    let start = c .before .before .before .before .before .before .before in
-    rw (
-      c .before .before .before .before .before .to-bcd .ensures,
-      c .before .before .before .before .to-bcd2 .ensures,
-      c .before .before .before .to-bcd3 .ensures,
-      c .before .before .to-bcd4 .ensures,
-      c .before .to-bcd5 .ensures,
-      c .to-bcd6 .ensures,
-    )
-    (stored (start .args .t) (start .args .out .now) (start .pre))
+    let start = c .before .before in
+    let a = start .args in
+    ap (λ (l : List ℕ). sets (a .out .now) 0 (getD l 0 0 ∷ getD l 1 0 ∷ getD l 2 0 ∷ getD l 3 0 ∷ getD l 4 0 ∷ getD l 5 0 ∷ [])) (c .time-bytes .ensures)
+    ∙ stored (a .t) (a .out .now) (start .pre)
 
 pub put-time-spec : {M : Type 1} → statement M
 put-time-spec =
     tie.close
     (tie.spec
-    to-bcd-requires
+    time-bytes-requires
+    array-read-out
     slice-write-out
-    to-bcd-requires-2
+    array-read-out-2
     slice-write-out-2
-    to-bcd-requires-3
+    array-read-out-3
     slice-write-out-3
-    to-bcd-requires-4
+    array-read-out-4
     slice-write-out-4
-    to-bcd-requires-5
+    array-read-out-5
     slice-write-out-5
-    to-bcd-requires-6
+    array-read-out-6
     slice-write-out-6
     same-length
     returns)

@@ -1,14 +1,13 @@
--- `requests_tongzhu::write_ask` meets its contract: by the kind of the function, then by the room; head and check around nothing make the
--- frame.
+-- `requests_tongzhu::write_ask` meets its contract: by the kind of the function, the frame or a refusal that changes nothing.
 -- Assumes nothing.
-use mathlib.Core.List.{[]}
-use mathlib.Core.Path.{sym, ap, _∙_}
+use mathlib.Core.Path.{refl, sym, _∙_}
 use native.Mathlib.Omega.{arith}
-use borrow.Author.Needs.{needs}
-use Rattle.frames_written_tongzhu.specs.Writing.{sealed}
+use Rattle.refusals.specs.Refused.{request, shape}
+use Rattle.refusals.proofs.Writing.{faulty}
 use Rattle.frames_tongzhu.specs.declared.Kind.the-variants.{Reads, Sets, Unlisted}
-use Rattle.requests_tongzhu.proofs.Wires.{kept, crowded, framed, ask-wire, ask-room}
-use Rattle.requests_tongzhu.specs.Requests.{none}
+use Rattle.requests_tongzhu.specs.declared.Request.the-variants.{Ask}
+use Rattle.requests_tongzhu.proofs.Made.{sent, ask-fault}
+use borrow.Author.Needs.{needs}
 use Rattle.requests_tongzhu.proofs.write_ask.Statement.{statement}
 use Rattle.requests_tongzhu.proofs.write_ask.Tie as tie
 
@@ -18,57 +17,41 @@ kind-of-requires c κs = search needs
 enum-told : tie.Need-enum-told
 enum-told c = search needs
 
-refuse-requires : tie.Need-refuse-requires
-refuse-requires c κs = search needs
-
-returns : tie.Need-returns
-returns c =
-    let a = c .before .before .before .before .before .before .args in
-    let e = ask-wire (a .function) Reads
-    (sym (c .before .before .enum-told .given .1) ∙ c .before .before .before .before .kind-of .ensures) in
-    crowded _ _ (a .function) [] e _ (c .refuse .ensures) (omega arith)
-
-begin-requires : tie.Need-begin-requires
-begin-requires c κs = search needs
-
-seal-requires : tie.Need-seal-requires
-seal-requires c κs = search needs
+ask-frame-requires : tie.Need-ask-frame-requires
+ask-frame-requires c κs = search needs
 
 enum-told-2 : tie.Need-enum-told-2
 enum-told-2 c = search needs
 
-refuse-requires-2 : tie.Need-refuse-requires-2
-refuse-requires-2 c κs = search needs
+refuse-requires : tie.Need-refuse-requires
+refuse-requires c κs = search needs
 
 enum-told-3 : tie.Need-enum-told-3
 enum-told-3 c = search needs
 
-refuse-requires-3 : tie.Need-refuse-requires-3
-refuse-requires-3 c κs = search needs
+refuse-requires-2 : tie.Need-refuse-requires-2
+refuse-requires-2 c κs = search needs
 
 same-length : tie.Need-same-length
 same-length c = search needs
 
+returns : tie.Need-returns
+returns c =
+    let w = c .before .before .ask-frame in
+    let told = c .before .before .before .before in
+    (w .ensures .0 ∙ sent (Ask _) _ (ask-fault _ Reads (sym (told .enum-told .given .1) ∙ told .before .before .kind-of .ensures)), w .ensures .1)
+
 returns-2 : tie.Need-returns-2
 returns-2 c =
-    let began = c .before .before .before .before .before .before in
-    let told = began .before .before .before in
-    let a = told .before .before .before .before .args in
-    let e = ask-wire (a .function) Reads (sym (told .enum-told .given .1) ∙ told .before .before .kind-of .ensures) in
-    framed _ _ (a .function) [] e _ (omega arith)
-    (c .before .before .seal .ensures ∙ ap (sealed 0) (began .begin .ensures) ∙ ask-room (a .function) (a .out .now) (omega arith))
+    let told = c .before in
+    rw (c .refuse .ensures)
+    (faulty _ _ _ shape (ask-fault _ Sets (sym (told .enum-told2 .given .1) ∙ told .before .before .kind-of .ensures)) (λ h. omega arith), refl)
 
 returns-3 : tie.Need-returns-3
 returns-3 c =
-    let a = c .before .before .before .before .before .args in
-    kept _ _ _ (ap none (c .refuse2 .ensures)
-    ∙ ask-wire (a .function) Sets (sym (c .before .enum-told2 .given .1) ∙ c .before .before .before .kind-of .ensures))
-
-returns-4 : tie.Need-returns-4
-returns-4 c =
-    let a = c .before .before .before .before .before .args in
-    kept _ _ _ (ap none (c .refuse3 .ensures)
-    ∙ ask-wire (a .function) Unlisted (sym (c .before .enum-told3 .given .1) ∙ c .before .before .before .kind-of .ensures))
+    let told = c .before in
+    rw (c .refuse2 .ensures)
+    (faulty _ _ _ request (ask-fault _ Unlisted (sym (told .enum-told3 .given .1) ∙ told .before .before .kind-of .ensures)) (λ h. omega arith), refl)
 
 pub write-ask-spec : {M : Type 1} → statement M
 write-ask-spec =
@@ -76,15 +59,12 @@ write-ask-spec =
     (tie.spec
     kind-of-requires
     enum-told
-    refuse-requires
-    returns
-    begin-requires
-    seal-requires
+    ask-frame-requires
     enum-told-2
-    refuse-requires-2
+    refuse-requires
     enum-told-3
-    refuse-requires-3
+    refuse-requires-2
     same-length
+    returns
     returns-2
-    returns-3
-    returns-4)
+    returns-3)

@@ -1,5 +1,10 @@
--- `requests_tongzhu::write_request` meets its contract: by the request.
+-- `requests_tongzhu::write_request` meets its contract: the writer of its kind of request.
 -- Assumes nothing.
+use mathlib.Core.Path.{sym, ap, _∙_}
+use lib.ListN.{length}
+use Rattle.refusals.specs.Writing.{roomAfter}
+use Rattle.requests_tongzhu.specs.declared.Request.{Request}
+use Rattle.requests_tongzhu.specs.Requests.{frameFor, sentAs}
 use borrow.Author.Needs.{needs}
 use Rattle.requests_tongzhu.proofs.write_request.Statement.{statement}
 use Rattle.requests_tongzhu.proofs.write_request.Tie as tie
@@ -20,13 +25,27 @@ same-length : tie.Need-same-length
 same-length c = search needs
 
 returns : tie.Need-returns
-returns c = rw (c .before .before .before .before .before .q .given .1) (c .before .before .write-ask .ensures)
+returns c =
+    let w = c .before .before .write-ask in
+    let told = c .before .before .before .before .before in
+    let a = told .before .before .before .args in
+    let e = sym (told .q .given .1) in (
+      w .ensures .0 ∙ ap (λ (x : Request). sentAs x (length (a .out .now))) e,
+      w .ensures .1 ∙ ap (λ (x : Request). roomAfter (w .result) (frameFor x) (a .out .now)) e,
+    )
 
 same-length-2 : tie.Need-same-length-2
 same-length-2 c = search needs
 
 returns-2 : tie.Need-returns-2
-returns-2 c = rw (c .before .before .before .before .before .q2 .given .1) (c .before .before .write-time .ensures)
+returns-2 c =
+    let w = c .before .before .write-time in
+    let told = c .before .before .before .before .before in
+    let a = told .before .before .before .args in
+    let e = sym (told .q2 .given .1) in (
+      w .ensures .0 ∙ ap (λ (x : Request). sentAs x (length (a .out .now))) e,
+      w .ensures .1 ∙ ap (λ (x : Request). roomAfter (w .result) (frameFor x) (a .out .now)) e,
+    )
 
 pub write-request-spec : {M : Type 1} → statement M
 write-request-spec =

@@ -1,16 +1,13 @@
--- `requests_tongzhu::write_time` meets its contract: by the test of the time, then by the room; head, six bytes and check make the frame.
+-- `requests_tongzhu::write_time` meets its contract: an unreal time is refused and changes nothing; else the frame.
 -- Assumes nothing.
-use mathlib.Core.List.{List}
-use mathlib.Core.Path.{sym, ap, _∙_}
-use Prim.Native.Nat.{ℕ}
+use mathlib.Core.Path.{refl, sym, _∙_}
 use native.Mathlib.Omega.{arith}
-use borrow.Author.Needs.{needs}
 use borrow.Author.Tests.{not-true, not-false}
-use borrow.Rule.Slice.PartMut.{putMid}
-use Rattle.frames_written_tongzhu.specs.Writing.{sealed}
-use Rattle.requests_tongzhu.proofs.Wires.{kept, crowded, framed, real-wire, unreal-wire, time-room}
-use Rattle.requests_tongzhu.specs.Requests.{none}
-use Rattle.times_tongzhu.specs.Times.{timeBytes}
+use Rattle.refusals.specs.Refused.{range}
+use Rattle.refusals.proofs.Writing.{faulty}
+use Rattle.requests_tongzhu.specs.declared.Request.the-variants.{SetTime}
+use Rattle.requests_tongzhu.proofs.Made.{sent, real-time, unreal-time}
+use borrow.Author.Needs.{needs}
 use Rattle.requests_tongzhu.proofs.write_time.Statement.{statement}
 use Rattle.requests_tongzhu.proofs.write_time.Tie as tie
 
@@ -21,64 +18,21 @@ refuse-requires : tie.Need-refuse-requires
 refuse-requires c κs = search needs
 
 returns : tie.Need-returns
-returns c =
-    kept _ _ _ (ap none (c .refuse .ensures)
-    ∙ unreal-wire _ (sym (c .before .before .is-real .ensures) ∙ not-true _ (c .before .if1 .taken)))
+returns c = rw (c .refuse .ensures) (faulty _ _ _ range (unreal-time _ (sym (c .before .before .is-real .ensures) ∙ not-true _ (c .before .if1 .taken))) (λ h. omega arith), refl)
 
-refuse-requires-2 : tie.Need-refuse-requires-2
-refuse-requires-2 c κs = search needs
-
-returns-2 : tie.Need-returns-2
-returns-2 c =
-    crowded _ _ 0x30 _ (real-wire _ (sym (c .before .before .before .is-real .ensures) ∙ not-false _ (c .before .before .if1 .left))) _
-    (c .refuse2 .ensures) (omega arith)
-
-begin-requires : tie.Need-begin-requires
-begin-requires c κs = search needs
-
-sub-put-time : tie.Need-sub-put-time
-sub-put-time c = search needs
-
-part-put-time-start : tie.Need-part-put-time-start
-part-put-time-start c = search needs
-
-part-put-time-end : tie.Need-part-put-time-end
-part-put-time-end c = search needs
-
-put-time-requires : tie.Need-put-time-requires
-put-time-requires c κs = search needs
-
-seal-requires : tie.Need-seal-requires
-seal-requires c κs = search needs
+time-frame-requires : tie.Need-time-frame-requires
+time-frame-requires c κs = search needs
 
 same-length : tie.Need-same-length
 same-length c = search needs
 
-returns-3 : tie.Need-returns-3
-returns-3 c =
-    let began = c .before .before .before .before .before .before .before .before .before .before in
-    let tried = began .before .before .before .before in
-    let a = tried .before .before .args in
-    let e = real-wire (a .t) (sym (tried .is-real .ensures) ∙ not-false _ (began .before .before .before .if1 .left)) in
-    let times = c .before .before .before .before .before .before .put-time in
-    framed _ _ 0x30 (timeBytes (a .t)) e _ (omega arith)
-    (c .before .before .seal .ensures ∙ ap (λ (l : List ℕ). sealed 6 (putMid 5 6 l (times .last .1 .0))) (began .begin .ensures)
-    ∙ time-room (a .t) (a .out .now) _ (omega arith) (times .ensures))
+returns-2 : tie.Need-returns-2
+returns-2 c =
+    let w = c .before .before .time-frame in
+    let one = c .before .before .before .before in
+    (w .ensures .0 ∙ sent (SetTime _) _ (real-time _ (sym (one .before .is-real .ensures) ∙ not-false _ (one .if1 .left))), w .ensures .1)
 
 pub write-time-spec : {M : Type 1} → statement M
 write-time-spec =
     tie.close
-    (tie.spec
-    is-real-requires
-    refuse-requires
-    returns
-    refuse-requires-2
-    returns-2
-    begin-requires
-    sub-put-time
-    part-put-time-start
-    part-put-time-end
-    put-time-requires
-    seal-requires
-    same-length
-    returns-3)
+    (tie.spec is-real-requires refuse-requires returns time-frame-requires same-length returns-2)

@@ -7,8 +7,9 @@ use lib.ListN.{length}
 use mir.Syntax.{w32}
 use mir.Val.{ofZ, toZ}
 use borrow.Author.Needs.{needs}
+use Rattle.refusals.specs.Writing.{roomAfter}
 use Rattle.requests_pathfinder.specs.declared.Request.the-variants.{Write}
-use Rattle.requests_pathfinder.specs.Requests.{sentAs, roomAfter}
+use Rattle.requests_pathfinder.specs.Requests.{frameFor, sentAs}
 use Rattle.restore_order.specs.Slots.{at}
 use Rattle.restore_rules.proofs.Numbers.{from-bits}
 use Rattle.restore_next.proofs.Steps.{out-of-turn, nothing-to-write, no-room, one-write, first-below}
@@ -88,8 +89,8 @@ returns-4 c =
     let e : toZ w32 (ofZ w32 (at (a .job .wanted) r)) ≡ at (a .job .wanted) r = from-bits (at (a .job .wanted) r) (v .value .given) in
     let answer : x .write-set .result ≡ sentAs (Write r (at (a .job .wanted) r)) (length (a .out .now)) =
     x .write-set .ensures .0 ∙ ap (λ (z : ℤ). sentAs (Write r z) (length (a .out .now))) e in
-    let room : x .write-set .last .1 .1 .0 ≡ roomAfter (x .write-set .result) (Write r (at (a .job .wanted) r)) (a .out .now) =
-    x .write-set .ensures .1 ∙ ap (λ (z : ℤ). roomAfter (x .write-set .result) (Write r z) (a .out .now)) e in
+    let room : x .write-set .last .1 .1 .0 ≡ roomAfter (x .write-set .result) (frameFor (Write r (at (a .job .wanted) r))) (a .out .now) =
+    x .write-set .ensures .1 ∙ ap (λ (z : ℤ). roomAfter (x .write-set .result) (frameFor (Write r z)) (a .out .now)) e in
     let all =
     one-write (a .job) (a .out .now) (t .enum-told .given .1) r (sym (f .first-write .ensures) ∙ g .register .given .1) (v .before .if1 .left)
     (x .write-set .result) answer in

@@ -1,10 +1,10 @@
--- `requests_tongzhu::to_bcd` meets its contract: what `plain` makes of what the number is written as.
+-- `times_tongzhu::to_bcd` meets its contract: what `plain` makes of what the number is written as.
 -- Assumes nothing.
 use mathlib.Core.Path.{ap, _∙_}
 use borrow.Author.Needs.{needs}
 use Rattle.times_tongzhu.specs.Times.{plainOf}
-use Rattle.requests_tongzhu.proofs.to_bcd.Statement.{statement}
-use Rattle.requests_tongzhu.proofs.to_bcd.Tie as tie
+use Rattle.times_tongzhu.proofs.to_bcd.Statement.{statement}
+use Rattle.times_tongzhu.proofs.to_bcd.Tie as tie
 
 write-bcd-requires : tie.Need-write-bcd-requires
 write-bcd-requires c κs = search needs

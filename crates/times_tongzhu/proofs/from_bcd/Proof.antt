@@ -1,10 +1,10 @@
--- `requests_read_tongzhu::from_bcd` meets its contract: what `plain` makes of what the byte is read as.
+-- `times_tongzhu::from_bcd` meets its contract: what `plain` makes of what the byte is read as.
 -- Assumes nothing.
 use mathlib.Core.Path.{ap, _∙_}
 use borrow.Author.Needs.{needs}
 use Rattle.times_tongzhu.specs.Times.{plainOf}
-use Rattle.requests_read_tongzhu.proofs.from_bcd.Statement.{statement}
-use Rattle.requests_read_tongzhu.proofs.from_bcd.Tie as tie
+use Rattle.times_tongzhu.proofs.from_bcd.Statement.{statement}
+use Rattle.times_tongzhu.proofs.from_bcd.Tie as tie
 
 read-bcd-requires : tie.Need-read-bcd-requires
 read-bcd-requires c κs = search needs
