@@ -10,9 +10,7 @@ use Rattle.laws.specs.Choice.{pick}
 use Rattle.refusals.specs.declared.Written.{Written}
 use Rattle.refusals.specs.Refused.{request, shape, range, register}
 use Rattle.refusals.specs.Writing.{writtenAs}
-use Rattle.numbers.specs.declared.Order.the-variants.{LowFirst}
-use Rattle.numbers.specs.Bytes.{bytesOf}
-use Rattle.signs.specs.Signed.{bitsOf}
+use Rattle.words_pathfinder.specs.Words.{bytesOfWord}
 use Rattle.frames_written_pathfinder.specs.Writing.{frameBytes}
 use Rattle.registers_pathfinder.specs.Registers.{count, inRange}
 use Rattle.requests_pathfinder.specs.declared.Request.{Request}
@@ -28,7 +26,7 @@ opcodeOf (Write r v) = 0x0E
 
 -- register and value, four bytes, the low one first
 abbrev pub setLoad : ℕ → ℤ → List ℕ
-setLoad r v = r ∷ bytesOf LowFirst 4 (bitsOf 32 v)
+setLoad r v = r ∷ bytesOfWord v
 
 abbrev pub loadOf : Request → List ℕ
 loadOf (Ask op) = []

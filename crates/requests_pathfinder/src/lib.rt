@@ -2,13 +2,11 @@
 // register and a signed value, written as frames. `requests_read_pathfinder` reads them again.
 use frames_written_pathfinder::begin;
 use frames_written_pathfinder::seal;
-use numbers::Order;
-use numbers::bytes32;
 use refusals::Written;
 use refusals::refuse;
 use registers_pathfinder::in_range;
 use registers_pathfinder::is_register;
-use signs::bits32;
+use words_pathfinder::word_bytes;
 ghost use mathlib.Core.Path.{_≡_};
 ghost use lib.ListN.{length};
 ghost use Rattle.refusals.specs.Refused.{refusedWith};
@@ -117,7 +115,7 @@ fn put_set(register: u8, value: i32, out: &mut [u8])
     requires { ⌜ length (now out) ≡ 5 ⌝ }
     ensures { λ _. ⌜ now (out .exit) ≡ setLoad register value ⌝ }
 {
-    let b = bytes32(Order::LowFirst, bits32(value));
+    let b = word_bytes(value);
     out[0] = register;
     out[1] = b[0];
     out[2] = b[1];

@@ -8,20 +8,15 @@ use lib.ListN.{getD, length-set}
 use lib.Seq.{sets}
 use mir.Syntax.{w32}
 use mir.ValLaws.{toZ-ofZ}
-use Rattle.signs.specs.Signed.{bitsOf}
-use Rattle.numbers.specs.Bytes.{bytesOf}
-use Rattle.numbers.specs.declared.Order.the-variants.{LowFirst}
+use Rattle.words_pathfinder.specs.Words.{bytesOfWord}
 use Rattle.frames_written_pathfinder.proofs.Writers.{all-of}
 use Rattle.requests_pathfinder.specs.Requests.{setLoad}
 use borrow.Author.Needs.{needs}
 use Rattle.requests_pathfinder.proofs.put_set.Statement.{statement}
 use Rattle.requests_pathfinder.proofs.put_set.Tie as tie
 
-bits32-requires : tie.Need-bits32-requires
-bits32-requires c κs = search needs
-
-bytes32-requires : tie.Need-bytes32-requires
-bytes32-requires c κs = search needs
+word-bytes-requires : tie.Need-word-bytes-requires
+word-bytes-requires c κs = search needs
 
 slice-write-out : tie.Need-slice-write-out
 slice-write-out c = search needs
@@ -55,18 +50,16 @@ same-length c = search needs
 
 returns : tie.Need-returns
 returns c =
-    let a = c .before .before .before .args in
-    let held = toZ-ofZ w32 (a .value) (c .before .before .before .fits .value) in
-    let e = c .bytes32 .ensures ∙ ap (bytesOf LowFirst 4) (c .before .bits32 .ensures ∙ ap (bitsOf 32) held) in
+    let a = c .before .before .args in
+    let e = c .word-bytes .ensures ∙ ap bytesOfWord (toZ-ofZ w32 (a .value) (c .before .before .fits .value)) in
     ap (λ (l : List ℕ). sets (a .out .now) 0 (a .register ∷ getD l 0 0 ∷ getD l 1 0 ∷ getD l 2 0 ∷ getD l 3 0 ∷ [])) e
-    ∙ all-of (setLoad (a .register) (a .value)) (a .out .now) (c .before .before .before .pre)
+    ∙ all-of (setLoad (a .register) (a .value)) (a .out .now) (c .before .before .pre)
 
 pub put-set-spec : {M : Type 1} → statement M
 put-set-spec =
     tie.close
     (tie.spec
-    bits32-requires
-    bytes32-requires
+    word-bytes-requires
     slice-write-out
     array-read-out
     slice-write-out-2
