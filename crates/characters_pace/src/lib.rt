@@ -57,6 +57,7 @@ pub fn fault_of(s: &[u8]) -> u8
     first_fault(all_hex(s), s.len() % 2 == 0)
 }
 
+// The first that is met, in the order of 01.
 fn first_fault(hex: bool, even: bool) -> u8
     ensures { λ r. ⌜ r ≡ pick hex (pick even 0 shape) character ⌝ }
 {

@@ -1,6 +1,5 @@
 -- `characters_pace::fault_of` meets its contract: the two tests of the characters.
 -- Assumes nothing.
-use mathlib.Core.Path.{_∙_}
 use borrow.Author.Needs.{needs}
 use Rattle.characters_pace.specs.Characters.{faultOf}
 use Rattle.characters_pace.proofs.fault_of.Statement.{statement}

@@ -8,7 +8,7 @@ use Rattle.refusals.specs.Refused.{refusedWith}
 use Rattle.characters_pace.specs.Characters.{bytesIn, faultOf}
 use Rattle.characters_pace.proofs.Checked.{checked-refused, checked-bytes}
 use Rattle.counts_pace.specs.declared.Counts.the-variants.{Are, Refused}
-use Rattle.counts_pace.specs.Counts.{spaceOf, cellsIn, temperaturesIn, countsOf}
+use Rattle.counts_pace.specs.Counts.{spaceOf, cellsIn, countsOf}
 use Rattle.counts_pace.proofs.Cases.{misshapen, counts}
 use borrow.Author.Needs.{needs}
 use Rattle.counts_pace.proofs.counts_of.Statement.{statement}
