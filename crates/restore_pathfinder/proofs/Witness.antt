@@ -22,7 +22,8 @@ use Rattle.records_pathfinder.specs.Replies.{judged, replyOf}
 use Rattle.requests_pathfinder.specs.declared.Request.the-variants.{Ask, Write}
 use Rattle.requests_read_pathfinder.specs.declared.Parsed.{Parsed}
 use Rattle.requests_read_pathfinder.specs.declared.Parsed.the-variants.{Is, Refused}
-use Rattle.requests_pathfinder.specs.Requests.{faultOf, writtenAs, sentAs}
+use Rattle.refusals.specs.Writing.{writtenAs}
+use Rattle.requests_pathfinder.specs.Requests.{faultOf}
 use Rattle.requests_read_pathfinder.specs.Reading.{parsedSet, parsedOf, requestOf}
 use Rattle.requests_read_pathfinder.proofs.RoundTrip.{written-reads-back-request}
 use Rattle.restore_order.specs.Slots.{slots, at, writes, put, sides}
@@ -380,7 +381,7 @@ story =
     ∷ []
 
 pub p11-cut : Supposed plain present present wanted story
-unfolding story plain after writes requestOf parsedOf parsedSet frameOf frameBytes sentAs writtenAs faultOf replyOf judged kindOf isFailure isListed shapeOf crcOf crcFrom shifts shift inRange fitsType lows highs typeLows typeHighs types.settings O.opening every sides
+unfolding story plain after writes requestOf parsedOf parsedSet frameOf frameBytes writtenAs faultOf replyOf judged kindOf isFailure isListed shapeOf crcOf crcFrom shifts shift inRange fitsType lows highs typeLows typeHighs types.settings O.opening every sides
 p11-cut =
     record {
       write-rule = plain-obeys;
