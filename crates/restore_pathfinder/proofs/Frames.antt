@@ -9,7 +9,7 @@ use lib.IntN.{ℤ, pos, negsuc}
 use lib.Dec.{ltb}
 use lib.Signed.{mag, leZ}
 use lib.ListN.{length, getD, drop}
-use borrow.Author.Tests.{leb-true, ltb-true, ltb-false, le-ltb}
+use borrow.Author.Tests.{leb-true, ltb-true, ltb-false}
 use Rattle.laws.specs.Every.{every}
 use Rattle.laws.proofs.Every.{every-at}
 use Rattle.laws.proofs.Ladders.{both}
@@ -21,7 +21,8 @@ use Rattle.signs.specs.Signed.{bitsOf}
 use Rattle.frames_written_pathfinder.specs.Writing.{frameBytes}
 use Rattle.registers_pathfinder.specs.Registers.{count, lows, highs, within, inRange}
 use Rattle.requests_pathfinder.specs.declared.Request.the-variants.{Write}
-use Rattle.requests_pathfinder.specs.Requests.{faultOf, writtenAs, sentAs}
+use Rattle.requests_pathfinder.specs.Requests.{faultOf, sentAs}
+use Rattle.requests_pathfinder.proofs.Made.{goes-out}
 use Rattle.requests_read_pathfinder.specs.declared.Parsed.the-variants.{Is}
 use Rattle.requests_read_pathfinder.specs.Reading.{requestOf}
 use Rattle.requests_read_pathfinder.proofs.RoundTrip.{written-reads-back-request}
@@ -144,8 +145,7 @@ small r v h =
     (ltb-true (mag (at lows r)) 2147483648 (c .0)) (ltb-true (mag (at highs r)) 2147483648 (c .1))
 
 takes : (r places : ℕ) (v : ℤ) → inRange r v ≡ true → 11 ≤ places → sentAs (Write r v) places ≡ HasFrame 11
-unfolding sentAs writtenAs
-takes r places v h enough = rw (no-fault r v h, le-ltb places 11 enough)
+takes r places v h enough = sym (goes-out (Write r v) places (no-fault r v h) enough)
 
 module _ (j : Job) (ranged : Ranged j) (places r : ℕ) (v : ℤ) (e : M.asked slots places (machine j) ≡ M.write r v) where
   facts : Writes j places r v

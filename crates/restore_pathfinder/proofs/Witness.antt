@@ -14,6 +14,7 @@ use Rattle.checks.specs.Crc.{shift, shifts, crcFrom, crcOf}
 use Rattle.refusals.specs.Refused.{refusedWith, checksum}
 use Rattle.refusals.specs.declared.Refusal.{Refusal}
 use Rattle.frames_pathfinder.specs.Reading.{frameOf}
+use Rattle.refusals.specs.Writing.{writtenAs}
 use Rattle.frames_written_pathfinder.specs.Writing.{frameBytes}
 use Rattle.types_pathfinder.specs.Types as types
 use Rattle.registers_pathfinder.specs.Registers.{typeLows, typeHighs, lows, highs, fitsType, inRange}
@@ -22,7 +23,7 @@ use Rattle.records_pathfinder.specs.Replies.{judged, replyOf}
 use Rattle.requests_pathfinder.specs.declared.Request.the-variants.{Ask, Write}
 use Rattle.requests_read_pathfinder.specs.declared.Parsed.{Parsed}
 use Rattle.requests_read_pathfinder.specs.declared.Parsed.the-variants.{Is, Refused}
-use Rattle.requests_pathfinder.specs.Requests.{faultOf, writtenAs, sentAs}
+use Rattle.requests_pathfinder.specs.Requests.{faultOf}
 use Rattle.requests_read_pathfinder.specs.Reading.{parsedSet, parsedOf, requestOf}
 use Rattle.requests_read_pathfinder.proofs.RoundTrip.{written-reads-back-request}
 use Rattle.restore_order.specs.Slots.{slots, at, writes, put, sides}
@@ -380,7 +381,7 @@ story =
     ∷ []
 
 pub p11-cut : Supposed plain present present wanted story
-unfolding story plain after writes requestOf parsedOf parsedSet frameOf frameBytes sentAs writtenAs faultOf replyOf judged kindOf isFailure isListed shapeOf crcOf crcFrom shifts shift inRange fitsType lows highs typeLows typeHighs types.settings O.opening every sides
+unfolding story plain after writes requestOf parsedOf parsedSet frameOf frameBytes writtenAs faultOf replyOf judged kindOf isFailure isListed shapeOf crcOf crcFrom shifts shift inRange fitsType lows highs typeLows typeHighs types.settings O.opening every sides
 p11-cut =
     record {
       write-rule = plain-obeys;
