@@ -14,6 +14,7 @@ use Rattle.checks.specs.Crc.{shift, shifts, crcFrom, crcOf}
 use Rattle.refusals.specs.Refused.{refusedWith, checksum}
 use Rattle.refusals.specs.declared.Refusal.{Refusal}
 use Rattle.frames_pathfinder.specs.Reading.{frameOf}
+use Rattle.refusals.specs.Writing.{writtenAs}
 use Rattle.frames_written_pathfinder.specs.Writing.{frameBytes}
 use Rattle.types_pathfinder.specs.Types as types
 use Rattle.registers_pathfinder.specs.Registers.{typeLows, typeHighs, lows, highs, fitsType, inRange}
@@ -22,7 +23,6 @@ use Rattle.records_pathfinder.specs.Replies.{judged, replyOf}
 use Rattle.requests_pathfinder.specs.declared.Request.the-variants.{Ask, Write}
 use Rattle.requests_read_pathfinder.specs.declared.Parsed.{Parsed}
 use Rattle.requests_read_pathfinder.specs.declared.Parsed.the-variants.{Is, Refused}
-use Rattle.refusals.specs.Writing.{writtenAs}
 use Rattle.requests_pathfinder.specs.Requests.{faultOf}
 use Rattle.requests_read_pathfinder.specs.Reading.{parsedSet, parsedOf, requestOf}
 use Rattle.requests_read_pathfinder.proofs.RoundTrip.{written-reads-back-request}
