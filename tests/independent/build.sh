@@ -8,6 +8,7 @@ case ${CONSOLE:-/} in
 esac
 
 cd "$(dirname "${BASH_SOURCE[0]}")/../.." || exit 2
+. tests/machine.sh
 
 CARGO_TARGET_DIR=$PWD/target/independent \
     cargo build --release --offline --quiet --manifest-path tests/independent/Cargo.toml || exit 2
@@ -18,6 +19,7 @@ need_console() {
     if [ -z "${CONSOLE:-}" ] && [ ! -e "$console" ]; then
         rt check console || exit 2
     fi
+    [ -n "${CONSOLE:-}" ] || console=$(started "$console")
     if [ ! -x "$console" ]; then
         echo "there is no program $console" >&2
         exit 2

@@ -95,6 +95,7 @@ impl core::fmt::Display for Refusal {
     }
 }
 
+#[cfg(core_error)]
 impl core::error::Error for Refusal {}
 
 pub type Result<T> = core::result::Result<T, Refusal>;
