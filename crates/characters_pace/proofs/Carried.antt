@@ -3,19 +3,19 @@
 -- Assumes nothing.
 use mathlib.Core.Path.{_≡_, refl, sym, ap₂, _∙_}
 use mathlib.Core.Bool.{Bool, true, false, _&&_}
-use mathlib.Core.List.{List, [], _∷_, _++_, append-nil}
+use mathlib.Core.List.{List, [], _∷_, _++_}
 use Prim.Native.Nat.{ℕ, zero, suc, _+_, _-_, _*_, _/_, _%_, _<_, _≤_}
 use native.Mathlib.Omega.{arith}
 use borrow.Author.Tests.{ltb-true, ltb-false, le-ltb}
 use lib.Dec.{ltb}
-use lib.ListN.{length, getD, drop, drop-of-length-le, List·getD-eq-default}
+use lib.ListN.{length, getD, List·getD-eq-default}
 use Rattle.digits.specs.declared.Hex.{Hex}
 use Rattle.digits.specs.declared.Hex.the-variants.{Value, Other}
 use Rattle.digits.specs.Hexes.{digitOf, byteOf, joined, charOf}
 use Rattle.digits.proofs.Characters.{digit-reads-back, digit-small, byte-reads-back, byte-writes-back}
 use Rattle.laws.proofs.Ladders.{both}
 use Rattle.numbers.proofs.Orders.{Bytes}
-use Rattle.characters_pace.specs.Characters.{valueIn, isValue, allOf, allHex, bytesIn, halves, hexed, hexAfter}
+use Rattle.characters_pace.specs.Characters.{valueIn, isValue, allOf, allHex, bytesIn, halves, hexed}
 use Rattle.characters_pace.proofs.Halves.{halves-length}
 
 -- ---- places
@@ -41,13 +41,6 @@ bytes-past s i h = List·getD-eq-default (bytesIn s) 0 (omega (arith, bytes-leng
 
 pub hexed-length : (bs : List ℕ) → length (hexed bs) ≡ 2 * length bs
 hexed-length bs = halves-length (λ b. charOf (b / 16)) (λ b. charOf (b % 16)) bs
-
--- room of just the right size holds the characters alone
-pub hex-exact : (bs out : List ℕ) → length out ≡ 2 * length bs → hexAfter bs out ≡ hexed bs
-hex-exact bs out e =
-    let fits : length bs ≤ length out / 2 = omega arith in
-    let none : drop (2 * length bs) out ≡ [] = drop-of-length-le out {i = 2 * length bs} (omega arith) in
-    rw (le-ltb _ _ fits, none) (append-nil (hexed bs))
 
 -- ---- written, then read
 

@@ -3,8 +3,8 @@
 use mathlib.Core.Bool.{Bool, true, false, _&&_}
 use mathlib.Core.List.{List, [], _∷_, _++_}
 use Prim.Native.Nat.{ℕ, _+_, _*_, _/_, _%_}
-use lib.Dec.{ltb, eqb}
-use lib.ListN.{length, getD, drop}
+use lib.Dec.{eqb}
+use lib.ListN.{length, getD}
 use Rattle.laws.specs.Choice.{pick}
 use Rattle.laws.specs.Firsts.{firsts}
 use Rattle.refusals.specs.declared.Refusal.{Refusal}
@@ -67,7 +67,3 @@ bytesAt at k d = firsts (λ i. getD d (at + i) 0) k
 -- k numbers of two bytes from a place on
 abbrev pub wordsAt : ℕ → ℕ → List ℕ → List ℕ
 wordsAt at k d = firsts (λ i. wordAt d (at + 2 * i)) k
-
--- the room after bytes were written to its front as characters; as it was where they do not fit
-abbrev pub hexAfter : List ℕ → List ℕ → List ℕ
-hexAfter bs out = pick (ltb (length out / 2) (length bs)) out (hexed bs ++ drop (2 * length bs) out)

@@ -7,7 +7,7 @@ use Prim.Native.Nat.{ℕ, _+_, _<_, _≤_}
 use native.Mathlib.Omega.{arith}
 use borrow.Author.Tests.{lt-ltb, le-ltb, ltb-false, le-leb, lt-leb, leb-true, eq-eqb, ne-eqb, eqb-true}
 use lib.Dec.{ltb, leb, eqb}
-use lib.ListN.{length, take, drop, length-append, length-drop, drop-of-length-le}
+use lib.ListN.{length, take, drop, drop-of-length-le}
 use lib.Seq.{take-at}
 use Rattle.laws.specs.Choice.{pick}
 use Rattle.laws.proofs.Ladders.{past, into}
@@ -90,10 +90,3 @@ both-halves fault size n frame out made a b p ends w r first is-frame half kept 
     let framed : r ≡ Frame size = answer ∙ sym (fits fault size (length out) (s .0) (s .1 .1)) in
     let begun : a ≡ made = half ∙ ap (λ (x : Written). leftAfter x made out) is-frame in
     (answer, whole ∙ rw framed (ap (λ (l : List ℕ). ends (p l)) begun ∙ makes))
-
--- it is as long as it was
-pub length-kept : (fault : ℕ) (r : Written) (frame out : List ℕ) → r ≡ writtenAs fault (length frame) (length out) → length (roomAfter r frame out) ≡ length out
-length-kept fault (Frame n) frame out e =
-    let s = frame-says fault (length frame) (length out) n e in
-    length-append frame (drop n out) ∙ omega (arith, length-drop n out, s .1 .0, s .1 .1)
-length-kept fault (Refused why) frame out e = refl

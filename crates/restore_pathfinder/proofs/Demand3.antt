@@ -12,7 +12,6 @@ use lib.ListN.{length, take, length-map}
 use lib.Seq.{take-all}
 use borrow.Author.Tests.{lt-ltb}
 use Rattle.refusals.specs.Refused.{refusedWith, turn}
-use Rattle.registers_pathfinder.specs.Registers.{inRange}
 use Rattle.restore_order.specs.Slots.{slots, at, writes, isIn, sides}
 use Rattle.restore_order.specs.Machine as M
 use Rattle.restore_order.specs.Opening as O

@@ -2,11 +2,10 @@
 -- frame written is read back, and the reader's rules. Assumes nothing.
 use mathlib.Core.Path.{_≡_, refl, sym, ap, _∙_}
 use mathlib.Core.Bool.{true}
-use mathlib.Core.List.{List, [], _∷_}
+use mathlib.Core.List.{[], _∷_}
 use Prim.Native.Nat.{ℕ}
 use Rattle.checks.specs.Crc.{shift, shifts, crcFrom, crcOf}
 use Rattle.frames_pathfinder.specs.declared.Frame.{Frame}
-use Rattle.frames_pathfinder.specs.Reading.{frameOf}
 use Rattle.frames_written_pathfinder.specs.Writing.{frameBytes}
 use Rattle.frames_written_pathfinder.proofs.ReadBack.{frame-reads-back}
 use Rattle.opcodes_pathfinder.specs.Opcodes.{isFailure, isListed, kindOf, shapeOf}

@@ -9,7 +9,7 @@ use lib.Dec.{eqb}
 use lib.ListN.{drop}
 use borrow.Author.Tests.{eqb-true, eq-eqb}
 use Rattle.frames_written_pathfinder.specs.Writing.{frameBytes}
-use Rattle.restore_order.specs.Slots.{at, one, times}
+use Rattle.restore_order.specs.Slots.{one, times}
 use Rattle.restore_pathfinder.specs.Demands.{sameBytes, occurrences, frameTo}
 
 same-self : (s : List ℕ) → sameBytes s s ≡ true

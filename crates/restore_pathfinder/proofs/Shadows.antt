@@ -2,7 +2,7 @@
 -- By induction over the dialogue, each call by `next-is-step` and `reply-is-step`, its frame by `one-frame` and `its-bytes`. Assumes nothing.
 use mathlib.Core.Path.{_≡_, refl, sym, ap, ap₂, _∙_}
 use mathlib.Core.Bool.{Bool, true, false}
-use mathlib.Core.List.{List, [], _∷_, _++_, map, map-append, append-nil}
+use mathlib.Core.List.{List, [], _∷_, _++_, map, map-append}
 use mathlib.Core.Logic.{_⊎_, inl, inr, ⊎-elim}
 use Prim.Native.Nat.{ℕ, zero, suc, _+_}
 use lib.IntN.{ℤ}
@@ -20,8 +20,7 @@ use Rattle.restore_jobs.specs.declared.Job.{Job}
 use Rattle.restore_next.specs.declared.Step.{Step}
 use Rattle.restore_next.specs.declared.Stepped.{Stepped}
 use Rattle.restore_jobs.specs.Jobs.{phaseOf, machine}
-use Rattle.restore_next.specs.Next.{nextOf, roomOf}
-use Rattle.restore_reply.specs.Reply.{readAs, answerOf, heardOf}
+use Rattle.restore_reply.specs.Reply.{readAs, answerOf}
 use Rattle.restore_pathfinder.specs.Wire.{Device, writeFrame, WriteRule, Scene, Event, next, reply, outgoing, goesOut, answering, after, afterAll}
 use Rattle.restore_pathfinder.specs.Suppositions.{Always, Delivered, AtOnceOrNever, Taken, AnswersFrameSent, Quiet, NobodyElse, OnLine, OwnReply, chances}
 use Rattle.restore_pathfinder.specs.Demands.{frameTo}

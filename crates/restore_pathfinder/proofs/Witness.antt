@@ -2,7 +2,7 @@
 -- refused there is a dialogue in which each frame gets its own reply, and one in which the first frame is spoilt and a device failure is heard; there is
 -- such a pack, and P11's pack is such an opening. Assumes nothing.
 use mathlib.Core.Path.{_≡_, refl, sym, ap, ap₂, subst, _∙_}
-use mathlib.Core.Bool.{Bool, true, false}
+use mathlib.Core.Bool.{true, false}
 use mathlib.Core.List.{List, [], _∷_, _++_}
 use mathlib.Core.Logic.{inr}
 use Prim.Native.Nat.{ℕ, suc, _≤_}
@@ -36,16 +36,16 @@ use Rattle.restore_order.proofs.Ordering.{first-in}
 use Rattle.restore_order.proofs.Histories.{Tested, begins, in-order, written-safe}
 use Rattle.restore_order.proofs.Demand3 as D
 use Rattle.restore_order.proofs.Witness.{present, wanted, p11-opens}
-use Rattle.restore_jobs.specs.declared.Phase.the-variants.{Ready, Waiting, Stopped}
+use Rattle.restore_jobs.specs.declared.Phase.the-variants.{Stopped}
 use Rattle.restore_jobs.specs.declared.Job.{Job}
 use Rattle.restore_jobs.specs.declared.Opening.the-variants.{Accepted}
 use Rattle.restore_next.specs.declared.Stepped.{Stepped}
 use Rattle.restore_jobs.specs.Jobs.{phaseOf, machine, held, openedAs, openOf, leftOf}
 use Rattle.restore_next.specs.Next.{nextOf}
-use Rattle.restore_reply.specs.Reply.{readAs, answerOf, heardOf}
+use Rattle.restore_reply.specs.Reply.{answerOf}
 use Rattle.restore_pathfinder.specs.Wire.{Reaction, Device, writeFrame, successFrame, WriteRule, Scene, begin, Event, next, reply, goesOut, answering, after, afterAll}
-use Rattle.restore_pathfinder.specs.Suppositions.{Always, Delivered, AtOnceOrNever, Taken, AnswersFrameSent, Quiet, NobodyElse, OnLine, OwnReply, Answered, chances, Supposed}
-use Rattle.restore_pathfinder.proofs.Frames.{Ranged, no-fault, small, opened-in-range, one-frame}
+use Rattle.restore_pathfinder.specs.Suppositions.{Always, Delivered, Taken, AnswersFrameSent, Quiet, OnLine, OwnReply, Answered, chances, Supposed}
+use Rattle.restore_pathfinder.proofs.Frames.{Ranged, no-fault, small, one-frame}
 use Rattle.restore_pathfinder.proofs.Received.{success-is-read, failure-is-read}
 use Rattle.restore_pathfinder.proofs.Shadows.{packOf, pack-obeys, asFrames, goes-out-is}
 use Rattle.restore_pathfinder.proofs.Demand3.{accepted-opens}

@@ -3,7 +3,7 @@
 use mathlib.Core.Path.{_≡_, sym, _∙_}
 use native.Mathlib.Omega.{arith}
 use Prim.Native.Nat.{_<_}
-use Rattle.digits.specs.declared.Hex.the-variants.{Value, Other}
+use Rattle.digits.specs.declared.Hex.the-variants.{Value}
 use Rattle.digits.specs.Hexes.{digitOf}
 use Rattle.digits.proofs.Characters.{digit-small}
 use borrow.Author.Needs.{needs}

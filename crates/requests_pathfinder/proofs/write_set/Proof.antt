@@ -1,7 +1,6 @@
 -- `requests_pathfinder::write_set` meets its contract: a fault refuses and changes nothing; else the frame.
 -- Assumes nothing.
 use mathlib.Core.Path.{refl, ap, _∙_}
-use lib.ListN.{length}
 use mir.Syntax.{w32}
 use mir.ValLaws.{toZ-ofZ}
 use Rattle.refusals.specs.Writing.{roomAfter}

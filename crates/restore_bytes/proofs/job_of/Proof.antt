@@ -1,6 +1,6 @@
 -- `restore_bytes::job_of` meets its contract: from its three parts.
 -- Assumes nothing.
-use mathlib.Core.Path.{_≡_, refl, _∙_}
+use mathlib.Core.Path.{_≡_, _∙_}
 use native.Mathlib.Omega.{arith}
 use lib.IntN.{pos}
 use lib.ListN.{length, take, drop, replicate, length-drop}

@@ -1,7 +1,7 @@
 -- `first_in` meets its contract. The test of the upper member, its numbers read back from their bits (`from-bits`), settles the order (`first-of-slot`).
 -- Assumes nothing.
 use mathlib.Core.Path.{_≡_, sym, ap₂, _∙_}
-use mathlib.Core.Bool.{Bool, true, false}
+use mathlib.Core.Bool.{true, false}
 use lib.Signed.{ltZ}
 use borrow.Author.Needs.{needs}
 use Rattle.restore_order.specs.Slots.{at, upperFirst}
