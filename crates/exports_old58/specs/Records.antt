@@ -13,7 +13,7 @@ use Rattle.parts_old58.specs.declared.Setup.{Setup}
 use Rattle.old58.specs.declared.Record.{Record}
 use Rattle.old58.specs.declared.Reading.{Reading}
 use Rattle.old58.specs.declared.Reading.the-variants.{Whole, Refused}
-use Rattle.exports_rows.specs.Told.{Told, numbers, refused, joined}
+use Rattle.exports_answers.specs.Told.{Told, numbers, refused, joined}
 
 -- whether a current is there (1) or missing (0), and the current, 0 where it is missing
 abbrev pub known : Current → ℤ

@@ -1,7 +1,7 @@
 // The 58-byte monitor for other languages (`rt staticlib exports_old58`): numbers and slices only, safe with any input.
 // `specs/Records.antt` says at which place of the row each value stands.
+use exports_answers::coded;
 use exports_parts::put_i32;
-use exports_rows::coded;
 use old58::Judged;
 use old58::judge;
 use parts_old58::Cell;
@@ -21,7 +21,7 @@ ghost use lib.IntN.{pos};
 ghost use lib.ListN.{length};
 ghost use Rattle.old58.specs.Read.{readingOf};
 ghost use Rattle.old58.specs.Record.{recordOf};
-ghost use Rattle.exports_rows.specs.Told.{codeOf, rowAfter, roomCode, over};
+ghost use Rattle.exports_answers.specs.Told.{codeOf, rowAfter, roomCode, over};
 ghost use Rattle.exports_old58.specs.Records.{known, milliamps, packNumbers, extremesNumbers, cellNumbers, energyNumbers, setupNumbers, SmallEnergy, allNumbers, toldOf};
 
 // How many numbers a record has.

@@ -1,21 +1,21 @@
 // PACE's replies for other languages (`rt staticlib exports_pace`): numbers and slices only, each call safe with any input.
 // `specs/Replies.antt` says which number an answer goes out as, and at which place of the row each of its values stands.
 use analog_pace::Analog;
+use commands_pace::Values;
+use exports_answers::coded;
+use exports_answers::put_numbers;
+use exports_answers::put_text;
 use exports_parts::put_i32;
 use exports_parts::put_u8;
 use exports_parts::put_u16;
-use exports_rows::coded;
-use exports_rows::put_numbers;
-use exports_rows::put_text;
 use records_pace::Answer;
 use records_pace::Reply;
 use records_pace::read_reply;
-use rows_pace::Values;
 use warnings_pace::Warnings;
 ghost use mathlib.Core.Path.{_≡_};
 ghost use lib.ListN.{length, take};
 ghost use Rattle.records_pace.specs.Reply.{replyOf};
-ghost use Rattle.exports_rows.specs.Told.{codeOf, rowAfter, textAfter, roomCode, over};
+ghost use Rattle.exports_answers.specs.Told.{codeOf, rowAfter, textAfter, roomCode, over};
 ghost use Rattle.exports_pace.specs.Replies.{analogNumbers, analogAll, warningNumbers, warningAll, valuesTold, toldOf};
 
 // How many numbers the analog information and the warnings have, with their lists.

@@ -1,4 +1,4 @@
--- Pathfinder's answers as numbers, for languages that share no enum (exports_rows, specs/Told.antt).
+-- Pathfinder's answers as numbers, for languages that share no enum (exports_answers, specs/Told.antt).
 -- Assumes nothing.
 use Prim.Native.Nat.{ℕ}
 use mathlib.Core.List.{List, [], _∷_}
@@ -6,7 +6,7 @@ use Rattle.records_pathfinder.specs.declared.Reply.{Reply}
 use Rattle.records_pathfinder.specs.declared.Reply.the-variants.{Words, Name, Written, Failure, Refused}
 use Rattle.search_pathfinder.specs.declared.Found.{Found}
 use Rattle.search_pathfinder.specs.declared.Found.the-variants.{At, Nothing}
-use Rattle.exports_rows.specs.Told.{codedAs, roomCode, over}
+use Rattle.exports_answers.specs.Told.{codedAs, roomCode, over}
 
 -- 1 words, 2 a name, 3 written, 4 the device's failure
 abbrev pub replyCode : Reply → ℕ

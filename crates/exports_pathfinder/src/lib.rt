@@ -1,7 +1,7 @@
 // Pathfinder's replies for other languages, and the search for one (`rt staticlib exports_pathfinder`): numbers and slices only, each call
 // safe with any input.
 // An answer that is an enum goes out as one number: `specs/Codes.antt` says which.
-use exports_rows::coded;
+use exports_answers::coded;
 use records_pathfinder::Reply;
 use records_pathfinder::read_reply;
 use search_pathfinder::Found;
@@ -10,7 +10,7 @@ ghost use mathlib.Core.List.{[], _∷_};
 ghost use lib.ListN.{length};
 ghost use Rattle.records_pathfinder.specs.Replies.{replyOf, rowAfter, nameAfter};
 ghost use Rattle.search_pathfinder.specs.Places.{searchOf};
-ghost use Rattle.exports_rows.specs.Told.{roomCode, over};
+ghost use Rattle.exports_answers.specs.Told.{roomCode, over};
 ghost use Rattle.exports_pathfinder.specs.Codes.{replyCode, foundCode, foundAfter};
 
 // Reads the reply to the Pathfinder request `asked`.

@@ -1,16 +1,16 @@
 // PACE's requests for other languages (`rt staticlib exports_requests_pace`): numbers and slices only, each call safe with any input.
 // `specs/Requests.antt` says which number a request that is read goes out as, and at which place of the row each of its values stands.
-use exports_rows::put_numbers;
-use exports_rows::written_number;
+use commands_pace::Values;
+use exports_answers::put_numbers;
+use exports_answers::written_number;
 use requests_pace::Parsed;
 use requests_pace::Request;
 use requests_pace::read_request;
 use requests_pace::write_request;
-use rows_pace::Values;
 ghost use mathlib.Core.Path.{_≡_};
 ghost use lib.ListN.{length};
-ghost use Rattle.exports_rows.specs.Told.{codeOf, rowAfter};
-ghost use Rattle.exports_rows.specs.Writing.{writtenCode};
+ghost use Rattle.exports_answers.specs.Told.{codeOf, rowAfter};
+ghost use Rattle.exports_answers.specs.Writing.{writtenCode};
 ghost use Rattle.refusals.specs.Writing.{roomAfter};
 ghost use Rattle.requests_pace.specs.Request.{frameFor, sentAs};
 ghost use Rattle.requests_pace.specs.Parsed.{parsedOf};

@@ -1,4 +1,4 @@
--- Pathfinder's requests, as they are read, for languages that share no enum (exports_rows, specs/Told.antt).
+-- Pathfinder's requests, as they are read, for languages that share no enum (exports_answers, specs/Told.antt).
 -- Assumes nothing.
 use mathlib.Core.List.{[], _∷_}
 use lib.IntN.{pos}
@@ -6,7 +6,7 @@ use Rattle.requests_pathfinder.specs.declared.Request.{Request}
 use Rattle.requests_pathfinder.specs.declared.Request.the-variants.{Ask, Write}
 use Rattle.requests_read_pathfinder.specs.declared.Parsed.{Parsed}
 use Rattle.requests_read_pathfinder.specs.declared.Parsed.the-variants as parsed
-use Rattle.exports_rows.specs.Told.{Told, numbers, refused}
+use Rattle.exports_answers.specs.Told.{Told, numbers, refused}
 
 -- 1 a request without data: its opcode; 2 one that sets a register: the register and the value
 abbrev pub toldFields : Request → Told

@@ -1,7 +1,7 @@
 // Pathfinder's requests for other languages (`rt staticlib exports_requests_pathfinder`): numbers and slices only, each call safe with any
 // input. `specs/Codes.antt` says which number a request that was read goes out as.
-use exports_rows::put_numbers;
-use exports_rows::written_number;
+use exports_answers::put_numbers;
+use exports_answers::written_number;
 use requests_pathfinder::Request;
 use requests_pathfinder::write_ask;
 use requests_pathfinder::write_set;
@@ -12,8 +12,8 @@ ghost use lib.ListN.{length};
 ghost use Rattle.refusals.specs.Writing.{roomAfter};
 ghost use Rattle.requests_pathfinder.specs.Requests.{frameFor, sentAs};
 ghost use Rattle.requests_read_pathfinder.specs.Reading.{requestOf};
-ghost use Rattle.exports_rows.specs.Told.{codeOf, rowAfter};
-ghost use Rattle.exports_rows.specs.Writing.{writtenCode};
+ghost use Rattle.exports_answers.specs.Told.{codeOf, rowAfter};
+ghost use Rattle.exports_answers.specs.Writing.{writtenCode};
 ghost use Rattle.exports_requests_pathfinder.specs.Codes.{toldFields, toldRequest};
 
 // Writes the Pathfinder request with this opcode, one that has no data.

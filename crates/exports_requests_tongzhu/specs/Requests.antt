@@ -9,7 +9,7 @@ use Rattle.requests_tongzhu.specs.declared.Request.the-variants.{Ask, SetTime}
 use Rattle.requests_read_tongzhu.specs.declared.Parsed.{Parsed}
 use Rattle.requests_read_tongzhu.specs.declared.Parsed.the-variants.{Is, Refused}
 use Rattle.flat_tongzhu.specs.Numbers.{timeNumbers}
-use Rattle.exports_rows.specs.Told.{Told, numbers, refused}
+use Rattle.exports_answers.specs.Told.{Told, numbers, refused}
 
 abbrev pub timeOf : ℕ → ℕ → ℕ → ℕ → ℕ → ℕ → Time
 timeOf a b c d e f = record { year = a; month = b; day = c; hour = d; minute = e; second = f }

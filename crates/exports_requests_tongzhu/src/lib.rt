@@ -1,7 +1,7 @@
 // Tongzhu's requests for other languages (`rt staticlib exports_requests_tongzhu`): numbers and slices only, each call safe with any input.
 // `specs/Requests.antt` says which number a request that is read goes out as, and at which place of the row each of its values stands.
-use exports_rows::put_numbers;
-use exports_rows::written_number;
+use exports_answers::put_numbers;
+use exports_answers::written_number;
 use flat_tongzhu::time_numbers;
 use requests_read_tongzhu::Parsed;
 use requests_read_tongzhu::read_request;
@@ -10,8 +10,8 @@ use requests_tongzhu::write_request;
 use times_tongzhu::Time;
 ghost use mathlib.Core.Path.{_≡_};
 ghost use lib.ListN.{length};
-ghost use Rattle.exports_rows.specs.Told.{codeOf, rowAfter};
-ghost use Rattle.exports_rows.specs.Writing.{writtenCode};
+ghost use Rattle.exports_answers.specs.Told.{codeOf, rowAfter};
+ghost use Rattle.exports_answers.specs.Writing.{writtenCode};
 ghost use Rattle.refusals.specs.Writing.{roomAfter};
 ghost use Rattle.requests_tongzhu.specs.Requests.{frameFor, sentAs};
 ghost use Rattle.requests_read_tongzhu.specs.Reading.{parsedOf};

@@ -1,4 +1,4 @@
--- What the calls of a restore answer as numbers (exports_rows, specs/Told.antt), and what becomes of the job's bytes: after a refusal, and where
+-- What the calls of a restore answer as numbers (exports_answers, specs/Told.antt), and what becomes of the job's bytes: after a refusal, and where
 -- nothing is left to write, they are as they were.
 -- Assumes nothing.
 use Prim.Native.Nat.{ℕ}
@@ -15,7 +15,7 @@ use Rattle.restore_reply.specs.declared.Outcome.the-variants as outcome
 use Rattle.restore_reply.specs.declared.Answer.{Answer}
 use Rattle.restore_reply.specs.declared.Answer.the-variants as answer
 use Rattle.restore_reply.specs.declared.Heard.{Heard}
-use Rattle.exports_rows.specs.Told.{codedAs}
+use Rattle.exports_answers.specs.Told.{codedAs}
 use Rattle.restore_bytes.specs.Jobs.{jobAfter}
 
 -- ---- open: 1 opened

@@ -1,6 +1,6 @@
 // The night restore for other languages (`rt staticlib exports_restore`): the job lives in bytes that the caller lends, 262 of them, and each call
 // is one of `restore_jobs`, `restore_next` or `restore_reply` on the job in them (`restore_bytes`). `specs/Steps.antt` says what each call answers.
-use exports_rows::coded;
+use exports_answers::coded;
 use restore_bytes::is_job;
 use restore_bytes::job_of;
 use restore_bytes::put_job;
@@ -18,7 +18,7 @@ ghost use Rattle.refusals.specs.Refused.{shape};
 ghost use Rattle.restore_jobs.specs.Jobs.{openOf, leftOf};
 ghost use Rattle.restore_next.specs.Next.{nextOf, roomOf};
 ghost use Rattle.restore_reply.specs.Reply.{heardOf};
-ghost use Rattle.exports_rows.specs.Told.{codedAs};
+ghost use Rattle.exports_answers.specs.Told.{codedAs};
 ghost use Rattle.restore_bytes.specs.Jobs.{isJob, sized, jobOf};
 ghost use Rattle.exports_restore.specs.Steps.{openedCode, openedJob, steppedCode, steppedJob, heardCode, heardJob};
 

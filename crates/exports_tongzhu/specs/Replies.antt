@@ -3,7 +3,7 @@
 use Prim.Native.Nat.{ℕ}
 use mathlib.Core.List.{List, [], _∷_}
 use lib.IntN.{ℤ}
-use Rattle.exports_rows.specs.Told.{Told, numbers, plain, refused, joined}
+use Rattle.exports_answers.specs.Told.{Told, numbers, plain, refused, joined}
 use Rattle.monitor3_tongzhu.specs.declared.Monitor3.{Monitor3}
 use Rattle.monitor3_tongzhu.specs.declared.Lists.{Lists}
 use Rattle.records_tongzhu.specs.declared.Answer.{Answer}

@@ -1,8 +1,8 @@
 // Tongzhu's replies for other languages (`rt staticlib exports_tongzhu`): numbers and slices only, each call safe with any input.
 // `specs/Replies.antt` says which number an answer goes out as, and at which place of the row each of its values stands.
+use exports_answers::coded;
+use exports_answers::put_numbers;
 use exports_parts::put_i32;
-use exports_rows::coded;
-use exports_rows::put_numbers;
 use flat_tongzhu::monitor2_numbers;
 use flat_tongzhu::monitor3_numbers;
 use flat_tongzhu::status_numbers;
@@ -22,7 +22,7 @@ ghost use lib.ListN.{length};
 ghost use Rattle.monitor3_tongzhu.specs.Layout.{foundAt, listsAt};
 ghost use Rattle.records_tongzhu.specs.Replies.{answerIn, answerTo, replyOf};
 ghost use Rattle.flat_tongzhu.specs.Numbers.{statusNumbers, monitor2Numbers};
-ghost use Rattle.exports_rows.specs.Told.{codeOf, rowAfter, roomCode, over};
+ghost use Rattle.exports_answers.specs.Told.{codeOf, rowAfter, roomCode, over};
 ghost use Rattle.exports_tongzhu.specs.Replies.{allNumbers, toldIn, toldOf};
 
 // How many numbers a monitor 3 has: its own, then 32 cells, 4 bytes of balance, 16 sensors and 16 MOSFET sensors.

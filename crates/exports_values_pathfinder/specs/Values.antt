@@ -1,4 +1,4 @@
--- What a word of a Pathfinder reply means, as numbers, for languages that share no enum (exports_rows, specs/Told.antt).
+-- What a word of a Pathfinder reply means, as numbers, for languages that share no enum (exports_answers, specs/Told.antt).
 -- Assumes nothing.
 use mathlib.Core.Bool.{Bool, true, false}
 use mathlib.Core.List.{[], _∷_}
@@ -7,7 +7,7 @@ use Rattle.rows_pathfinder.specs.declared.TenMillivolts.{TenMillivolts}
 use Rattle.rows_pathfinder.specs.declared.Row.{Row}
 use Rattle.rows_pathfinder.specs.declared.Row.the-variants as row
 use Rattle.rows_pathfinder.specs.Narrowing.{millivoltsOf}
-use Rattle.exports_rows.specs.Told.{Told, numbers, plain, refused}
+use Rattle.exports_answers.specs.Told.{Told, numbers, plain, refused}
 
 -- ten millivolts as their count
 abbrev pub tensOf : TenMillivolts → ℤ

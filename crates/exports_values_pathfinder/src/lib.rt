@@ -1,7 +1,7 @@
 // What a word of a Pathfinder reply means, for other languages (`rt staticlib exports_values_pathfinder`): numbers and slices only, each call
 // safe with any input.
 // An answer that is an enum goes out as one number: `specs/Values.antt` says which.
-use exports_rows::coded;
+use exports_answers::coded;
 use rows_pathfinder::Row;
 use rows_pathfinder::TenMillivolts;
 use rows_pathfinder::millivolts_of;
@@ -10,7 +10,7 @@ ghost use mathlib.Core.Path.{_≡_};
 ghost use mathlib.Core.List.{[], _∷_};
 ghost use lib.ListN.{length};
 ghost use Rattle.rows_pathfinder.specs.Narrowing.{rowOf};
-ghost use Rattle.exports_rows.specs.Told.{codeOf, rowAfter, roomCode, over};
+ghost use Rattle.exports_answers.specs.Told.{codeOf, rowAfter, roomCode, over};
 ghost use Rattle.exports_values_pathfinder.specs.Values.{tensOf, millivoltsIn, truthOf, toldRow};
 
 // Narrows a word of a Pathfinder reply to its row's type; the value goes to the first place.

@@ -6,7 +6,7 @@ use Prim.Native.Nat.{ℕ, _+_, _*_, _<_, _≤_}
 use borrow.Author.Tests.{lt-ltb, le-ltb}
 use lib.IntN.{ℤ, pos}
 use lib.ListN.{length, getD, length-map}
-use Rattle.exports_rows.proofs.Placing.{Sizes}
+use Rattle.exports_answers.proofs.Placing.{Sizes}
 use Rattle.monitor3_tongzhu.specs.declared.Lists.{Lists}
 use Rattle.monitor3_tongzhu.specs.Values.{numberAt, temperatureAt}
 use Rattle.monitor3_tongzhu.specs.Layout.{placesAt, listsIn, listsAt}

@@ -7,7 +7,7 @@ use lib.IntN.{ℤ, pos}
 use lib.ListN.{length}
 use Rattle.laws.specs.Choice.{pick}
 use Rattle.monitor3_tongzhu.specs.declared.Lists.{Lists}
-use Rattle.exports_rows.specs.Told.{behind}
+use Rattle.exports_answers.specs.Told.{behind}
 
 -- cells from place 12 on, balance from 44, sensors from 48, MOSFET sensors from 64, to 79
 abbrev pub listParts : Lists → List (List ℤ)

@@ -15,8 +15,8 @@ use Rattle.refusals.specs.Refused.{address, request, shape}
 use Rattle.characters_pace.specs.Characters.{bytesIn, bytesAt}
 use Rattle.frames_pace.specs.declared.Frame.the-variants as frame
 use Rattle.frames_pace.specs.Frame.{infoOf, frameOf}
-use Rattle.rows_pace.specs.declared.Command.{Command}
-use Rattle.rows_pace.specs.Commands.{commandOf, listed}
+use Rattle.commands_pace.specs.declared.Command.{Command}
+use Rattle.commands_pace.specs.Commands.{commandOf, listed}
 use Rattle.records_pace.specs.declared.Answer.{Answer}
 use Rattle.records_pace.specs.declared.Answer.the-variants.{Hardware, Serial, Accepted, DeviceFailure, Refused}
 use Rattle.records_pace.specs.declared.Reply.{Reply}

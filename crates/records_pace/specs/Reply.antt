@@ -12,9 +12,9 @@ use Rattle.characters_pace.specs.Characters.{bytesIn, bytesAt}
 use Rattle.frames_pace.specs.declared.Frame.{Frame}
 use Rattle.frames_pace.specs.declared.Frame.the-variants as frame
 use Rattle.frames_pace.specs.Frame.{infoOf, frameOf}
-use Rattle.rows_pace.specs.declared.Command.{Command}
-use Rattle.rows_pace.specs.declared.Command.the-variants as command
-use Rattle.rows_pace.specs.Commands.{commandOf, listed}
+use Rattle.commands_pace.specs.declared.Command.{Command}
+use Rattle.commands_pace.specs.declared.Command.the-variants as command
+use Rattle.commands_pace.specs.Commands.{commandOf, listed}
 use Rattle.settings_pace.specs.declared.Found.{Found}
 use Rattle.settings_pace.specs.declared.Found.the-variants as setting
 use Rattle.settings_pace.specs.Reading as settings

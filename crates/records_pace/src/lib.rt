@@ -1,16 +1,16 @@
 // PACE replies (004; 01, PACE): the frame, the address and the command asked, the return code, and the record that the command calls for.
 use analog_pace::Analog;
 use analog_pace::read_analog;
+use commands_pace::Command;
+use commands_pace::Setting;
+use commands_pace::Values;
+use commands_pace::command_of;
+use commands_pace::is_listed;
 use frames_pace::Frame;
 use frames_pace::read_frame;
 use lists_pace::bytes_of;
 use refusals::Refusal;
 use refusals::refuse;
-use rows_pace::Command;
-use rows_pace::Setting;
-use rows_pace::Values;
-use rows_pace::command_of;
-use rows_pace::is_listed;
 use settings_pace::Found;
 use settings_pace::read_setting;
 use warnings_pace::Warnings;

@@ -1,5 +1,5 @@
 -- The two ways round: a request that was written is read back, and a frame that is read as a request is the very frame that the writer writes for it.
--- Each puts together the frame's round trip and, where there are values, that of the setting's row. Assumes nothing.
+-- Each puts together the frame's round trip and, where there are values, that of the setting's layout. Assumes nothing.
 use mathlib.Core.Path.{_≡_, refl, sym, ap, _∙_, subst}
 use mathlib.Core.Bool.{Bool, true, false, _&&_}
 use mathlib.Core.List.{List, [], _∷_, _++_}
@@ -28,16 +28,16 @@ use Rattle.frames_pace.proofs.Parts.{info-length}
 use Rattle.frames_written_pace.proofs.RoundTrip.{payload-reads-back, frame-reads-back, payload-bytes, frame-writes-back}
 use Rattle.frames_pace.proofs.Whole.{whole-says}
 use Rattle.frames_written_pace.proofs.Writing.{chars-length}
-use Rattle.rows_pace.specs.declared.Command.{Command}
-use Rattle.rows_pace.specs.declared.Command.the-variants as command
-use Rattle.rows_pace.specs.declared.Setting.{Setting}
-use Rattle.rows_pace.specs.declared.Values.{Values}
-use Rattle.rows_pace.specs.Commands.{commandOf}
-use Rattle.rows_pace.specs.Rows.{rowOf, settingOf}
+use Rattle.commands_pace.specs.declared.Command.{Command}
+use Rattle.commands_pace.specs.declared.Command.the-variants as command
+use Rattle.commands_pace.specs.declared.Setting.{Setting}
+use Rattle.commands_pace.specs.declared.Values.{Values}
+use Rattle.commands_pace.specs.Commands.{commandOf}
+use Rattle.commands_pace.specs.Settings.{layoutOf, settingOf}
 use Rattle.writes_pace.specs.Allowed.{allowedOf}
-use Rattle.writes_pace.specs.Info as rows
-use Rattle.rows_pace.proofs.Commands.{writes-itself, writes-only}
-use Rattle.rows_pace.proofs.Rows.{writes-small}
+use Rattle.writes_pace.specs.Info as writes
+use Rattle.commands_pace.proofs.Commands.{writes-itself, writes-only}
+use Rattle.commands_pace.proofs.Settings.{writes-small}
 use Rattle.settings_pace.specs.declared.Found.{Found}
 use Rattle.settings_pace.specs.declared.Found.the-variants as setting
 use Rattle.settings_pace.specs.Reading as settings
@@ -53,7 +53,7 @@ use Rattle.requests_pace.proofs.Reading.{addressed, empty, carried, a-f
 
 -- ---- written, then read
 
--- address and command are bytes; the values' own limits are those of their row
+-- address and command are bytes; the values' own limits are those of their layout
 abbrev pub Fits : Request → Type 0
 Fits (Ask address command) = (address < 256) × (command < 256)
 Fits (Set address values) = address < 256
@@ -92,11 +92,11 @@ ask-back address code Unlisted k a c e = absurd (omega arith)
 
 -- a request with values
 values-back : (address : ℕ) (v : Values) → address < 256 → allowedOf v ≡ true
-    → Is (Set address v) ≡ parsedOf (written.frameChars address (rowOf (settingOf v) .writes) (rows.infoOf v))
+    → Is (Set address v) ≡ parsedOf (written.frameChars address (layoutOf (settingOf v) .writes) (writes.infoOf v))
 unfolding chars
 values-back address v a e =
-    let code = rowOf (settingOf v) .writes in
-    let info = rows.infoOf v in
+    let code = layoutOf (settingOf v) .writes in
+    let info = writes.infoOf v in
     let c = writes-small (settingOf v) in
     let b = info-bytes v e in
     let short = info-short v in
@@ -192,7 +192,7 @@ module _ (s : List ℕ) (address code st len : ℕ) (w : frame.Whole address cod
       let g = of-found q (settings.requestOf x d) (f .1) in
       let v = g .0 in
       let r = values-write-back x d v (payload-bytes s address code st len w) (g .1 .1) in
-      let same : rowOf (settingOf v) .writes ≡ code = ap (λ (y : Setting). rowOf y .writes) (r .setting) ∙ sym (writes-only code x (carries (commandOf code) x e)) in
+      let same : layoutOf (settingOf v) .writes ≡ code = ap (λ (y : Setting). layoutOf y .writes) (r .setting) ∙ sym (writes-only code x (carries (commandOf code) x e)) in
       subst (Same s) (sym (g .1 .0))
       (record { no-fault = rw (r .may); frame = again (Set address v) (len / 2) refl same (r .info) (omega (arith, size-of)) })
   by-kind q Unlisted e h = not-request q _ h

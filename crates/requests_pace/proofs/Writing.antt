@@ -14,10 +14,10 @@ use Rattle.refusals.proofs.Writing.{short-enough}
 use Rattle.frames_written_pace.specs.Written.{frameChars, framedAs}
 use Rattle.frames_written_pace.proofs.Writing.{chars-length}
 use Rattle.writes_pace.specs.declared.Info.{Info}
-use Rattle.rows_pace.specs.declared.Values.{Values}
-use Rattle.rows_pace.specs.Commands.{commandOf}
+use Rattle.commands_pace.specs.declared.Values.{Values}
+use Rattle.commands_pace.specs.Commands.{commandOf}
 use Rattle.writes_pace.specs.Allowed.{allowedOf}
-use Rattle.writes_pace.specs.Info as rows
+use Rattle.writes_pace.specs.Info as writes
 use Rattle.settings_pace.proofs.RoundTrip.{info-short}
 use Rattle.requests_pace.specs.declared.Kind.{Kind}
 use Rattle.requests_pace.specs.declared.Kind.the-variants.{Addressed, Bare, Carries, Unlisted}
@@ -59,14 +59,14 @@ sent q info out after w sound i answer room = (
 
 -- ---- the INFO of values, as the part of an array that is lent
 
-module _ (v : Values) (i : Info) (x : i ≡ rows.infoRecord v) where
+module _ (v : Values) (i : Info) (x : i ≡ writes.infoRecord v) where
   pub info-fits : i .len ≤ length (i .bytes)
   info-fits =
-      let size : i .len ≡ length (rows.infoOf v) = ap (λ (y : Info). y .len) x in
-      let all : length (i .bytes) ≡ length (rows.infoOf v ++ drop (length (rows.infoOf v)) (replicate 8 0)) = ap (λ (y : Info). length (y .bytes)) x in
-      omega (arith, length-append (rows.infoOf v) (drop (length (rows.infoOf v)) (replicate 8 0)))
+      let size : i .len ≡ length (writes.infoOf v) = ap (λ (y : Info). y .len) x in
+      let all : length (i .bytes) ≡ length (writes.infoOf v ++ drop (length (writes.infoOf v)) (replicate 8 0)) = ap (λ (y : Info). length (y .bytes)) x in
+      omega (arith, length-append (writes.infoOf v) (drop (length (writes.infoOf v)) (replicate 8 0)))
 
-  pub info-lent : take (i .len - 0) (i .bytes) ≡ rows.infoOf v
+  pub info-lent : take (i .len - 0) (i .bytes) ≡ writes.infoOf v
   info-lent =
       ap (λ (y : Info). take (y .len - 0) (y .bytes)) x
-      ∙ front-taken (length (rows.infoOf v)) (drop (length (rows.infoOf v)) (replicate 8 0)) (rows.infoOf v) refl
+      ∙ front-taken (length (writes.infoOf v)) (drop (length (writes.infoOf v)) (replicate 8 0)) (writes.infoOf v) refl

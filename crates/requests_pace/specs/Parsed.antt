@@ -11,7 +11,7 @@ use Rattle.characters_pace.specs.Characters.{bytesIn}
 use Rattle.frames_pace.specs.declared.Frame.{Frame}
 use Rattle.frames_pace.specs.declared.Frame.the-variants as frame
 use Rattle.frames_pace.specs.Frame as frames
-use Rattle.rows_pace.specs.Commands.{commandOf}
+use Rattle.commands_pace.specs.Commands.{commandOf}
 use Rattle.settings_pace.specs.declared.Found.{Found}
 use Rattle.settings_pace.specs.declared.Found.the-variants as setting
 use Rattle.settings_pace.specs.Reading as settings

@@ -8,12 +8,12 @@ use Rattle.refusals.specs.declared.Written.{Written}
 use Rattle.refusals.specs.Refused.{request, shape, range}
 use Rattle.refusals.specs.Writing.{writtenAs}
 use Rattle.frames_written_pace.specs.Written as frames
-use Rattle.rows_pace.specs.declared.Command.{Command}
-use Rattle.rows_pace.specs.declared.Command.the-variants as command
-use Rattle.rows_pace.specs.Commands.{commandOf}
-use Rattle.rows_pace.specs.Rows.{rowOf, settingOf}
+use Rattle.commands_pace.specs.declared.Command.{Command}
+use Rattle.commands_pace.specs.declared.Command.the-variants as command
+use Rattle.commands_pace.specs.Commands.{commandOf}
+use Rattle.commands_pace.specs.Settings.{layoutOf, settingOf}
 use Rattle.writes_pace.specs.Allowed.{allowedOf}
-use Rattle.writes_pace.specs.Info as rows
+use Rattle.writes_pace.specs.Info as writes
 use Rattle.requests_pace.specs.declared.Kind.{Kind}
 use Rattle.requests_pace.specs.declared.Kind.the-variants.{Addressed, Bare, Carries, Unlisted}
 use Rattle.requests_pace.specs.declared.Request.{Request}
@@ -37,7 +37,7 @@ addressOf (Set address values) = address
 
 abbrev pub codeOf : Request → ℕ
 codeOf (Ask address command) = command
-codeOf (Set address values) = rowOf (settingOf values) .writes
+codeOf (Set address values) = layoutOf (settingOf values) .writes
 
 -- INFO of a request without values
 abbrev pub askInfo : Kind → ℕ → List ℕ
@@ -48,7 +48,7 @@ askInfo Unlisted address = []
 
 abbrev pub infoOf : Request → List ℕ
 infoOf (Ask address command) = askInfo (kindOf (commandOf command)) address
-infoOf (Set address values) = rows.infoOf values
+infoOf (Set address values) = writes.infoOf values
 
 -- the frame that the document gives for a request
 abbrev pub frameFor : Request → List ℕ

@@ -1,15 +1,15 @@
 // PACE requests, written and read (004; 01, PACE): 42 and 44 with the address as their one INFO byte; C1, C2, D1, DB without INFO; D0 and DA with values.
 use characters_pace::byte_of;
+use commands_pace::Command;
+use commands_pace::Setting;
+use commands_pace::Values;
+use commands_pace::command_of;
 use frames_pace::Frame;
 use frames_pace::read_frame;
 use frames_written_pace::write_frame;
 use refusals::Refusal;
 use refusals::Written;
 use refusals::refuse;
-use rows_pace::Command;
-use rows_pace::Setting;
-use rows_pace::Values;
-use rows_pace::command_of;
 use settings_pace::Found;
 use settings_pace::parse_setting;
 use writes_pace::info_of;

@@ -1,5 +1,5 @@
--- A setting's values in INFO, over every row: what was written is read back, and what was read is written again.
--- The amounts go two bytes at a time; the rest is the row's shape.
+-- A setting's values in INFO, over every layout: what was written is read back, and what was read is written again.
+-- The amounts go two bytes at a time; the rest is the layout's shape.
 -- Assumes nothing.
 use mathlib.Core.Path.{_≡_, refl, sym, ap, ap₂, _∙_}
 use mathlib.Core.Bool.{true, _&&_}
@@ -17,15 +17,15 @@ use Rattle.numbers.proofs.Orders.{Bytes}
 use Rattle.refusals.specs.declared.Refusal.{Refusal}
 use Rattle.characters_pace.specs.Characters.{allOf, halves, wordAt, wordsAt}
 use Rattle.characters_pace.proofs.Halves.{halves-length}
-use Rattle.rows_pace.specs.declared.Setting.{Setting}
-use Rattle.rows_pace.specs.declared.Row.{Row}
-use Rattle.rows_pace.specs.declared.Values.{Values}
+use Rattle.commands_pace.specs.declared.Setting.{Setting}
+use Rattle.commands_pace.specs.declared.Layout.{Layout}
+use Rattle.commands_pace.specs.declared.Values.{Values}
 use Rattle.settings_pace.specs.declared.Found.the-variants.{Set, Refused}
-use Rattle.rows_pace.specs.Rows.{rowOf, settingOf, amountsOf, delayOf, valuesOf}
+use Rattle.commands_pace.specs.Settings.{layoutOf, settingOf, amountsOf, delayOf, valuesOf}
 use Rattle.writes_pace.specs.Allowed.{inSteps, allowed, allowedOf}
 use Rattle.writes_pace.specs.Info.{pairsOf, payload, infoOf}
 use Rattle.settings_pace.specs.Reading.{shaped, wordsIn, delayIn, requestOf}
-use Rattle.rows_pace.proofs.Rows.{few, highs, leads, amounts-count, values-again, setting-again, delay-again, amounts-again}
+use Rattle.commands_pace.proofs.Settings.{few, highs, leads, amounts-count, values-again, setting-again, delay-again, amounts-again}
 
 -- ---- two bytes at a time
 
@@ -77,44 +77,44 @@ pairs-back (suc k) (h ∷ l ∷ s) b e =
     ∙ ap₂ (λ (x y : ℕ). x ∷ y ∷ (pairsOf (firsts (λ i. wordAt s (2 * i)) k) ++ getD s (2 * k) 0 ∷ [])) high low
     ∙ ap (λ (t : List ℕ). h ∷ l ∷ t) (pairs-back k s (b .1 .1) (omega arith))
 
--- ---- over a row
+-- ---- over a layout
 
-module _ (row : Row) (a : List ℕ) (delay : ℕ) (n : length a ≡ row .amounts) where
-  pub shape-back : shaped row (payload row a delay) ≡ true
+module _ (layout : Layout) (a : List ℕ) (delay : ℕ) (n : length a ≡ layout .amounts) where
+  pub shape-back : shaped layout (payload layout a delay) ≡ true
   unfolding shaped payload
   shape-back =
-      let size : length (row .lead ∷ (pairsOf a ++ delay ∷ [])) ≡ 2 * row .amounts + 2 =
+      let size : length (layout .lead ∷ (pairsOf a ++ delay ∷ [])) ≡ 2 * layout .amounts + 2 =
       let p = length-append (pairsOf a) (delay ∷ []) in omega (arith, halves-length (λ x. x / 256 % 256) (λ x. x % 256) a) in
-      rw (eq-eqb _ _ size, eq-eqb (row .lead) (row .lead) refl)
+      rw (eq-eqb _ _ size, eq-eqb (layout .lead) (layout .lead) refl)
 
-  pub amounts-back : Words a → wordsIn row (payload row a delay) ≡ a
+  pub amounts-back : Words a → wordsIn layout (payload layout a delay) ≡ a
   unfolding payload
   amounts-back b =
-      ap (λ (k : ℕ). wordsAt 1 k (row .lead ∷ (pairsOf a ++ delay ∷ []))) (sym n)
-      ∙ firsts-same (λ i. wordAt (row .lead ∷ (pairsOf a ++ delay ∷ [])) (1 + 2 * i)) (λ i. wordAt (pairsOf a ++ delay ∷ []) (2 * i)) (length a)
-      (λ i h. behind (row .lead) (pairsOf a ++ delay ∷ []) i)
+      ap (λ (k : ℕ). wordsAt 1 k (layout .lead ∷ (pairsOf a ++ delay ∷ []))) (sym n)
+      ∙ firsts-same (λ i. wordAt (layout .lead ∷ (pairsOf a ++ delay ∷ [])) (1 + 2 * i)) (λ i. wordAt (pairsOf a ++ delay ∷ []) (2 * i)) (length a)
+      (λ i h. behind (layout .lead) (pairsOf a ++ delay ∷ []) i)
       ∙ words-back a (delay ∷ []) b
 
-  pub delay-back : delayIn row (payload row a delay) ≡ delay
+  pub delay-back : delayIn layout (payload layout a delay) ≡ delay
   unfolding payload
   delay-back =
-      let size : length (row .lead ∷ pairsOf a) ≡ 2 * row .amounts + 1 = omega (arith, halves-length (λ x. x / 256 % 256) (λ x. x % 256) a) in
-      getD-at (row .lead ∷ pairsOf a) delay [] 0 (2 * row .amounts + 1) size
+      let size : length (layout .lead ∷ pairsOf a) ≡ 2 * layout .amounts + 1 = omega (arith, halves-length (λ x. x / 256 % 256) (λ x. x % 256) a) in
+      getD-at (layout .lead ∷ pairsOf a) delay [] 0 (2 * layout .amounts + 1) size
 
-size-of : (row : Row) (d : List ℕ) → shaped row d ≡ true → (length d ≡ 2 * row .amounts + 2) × (getD d 0 0 ≡ row .lead)
+size-of : (layout : Layout) (d : List ℕ) → shaped layout d ≡ true → (length d ≡ 2 * layout .amounts + 2) × (getD d 0 0 ≡ layout .lead)
 unfolding shaped
-size-of row d e =
-    let f = both (eqb (length d) (2 * row .amounts + 2)) (eqb (getD d 0 0) (row .lead)) e in
-    (eqb-true (length d) (2 * row .amounts + 2) (f .0), eqb-true (getD d 0 0) (row .lead) (f .1))
+size-of layout d e =
+    let f = both (eqb (length d) (2 * layout .amounts + 2)) (eqb (getD d 0 0) (layout .lead)) e in
+    (eqb-true (length d) (2 * layout .amounts + 2) (f .0), eqb-true (getD d 0 0) (layout .lead) (f .1))
 
-pub payload-again : (row : Row) (d : List ℕ) → Bytes d → shaped row d ≡ true → payload row (wordsIn row d) (delayIn row d) ≡ d
+pub payload-again : (layout : Layout) (d : List ℕ) → Bytes d → shaped layout d ≡ true → payload layout (wordsIn layout d) (delayIn layout d) ≡ d
 unfolding payload Bytes
-payload-again row [] b e = absurd (omega (arith, size-of row [] e .0))
-payload-again row (x ∷ s) b e =
-    let k = row .amounts in
-    let f = size-of row (x ∷ s) e in
+payload-again layout [] b e = absurd (omega (arith, size-of layout [] e .0))
+payload-again layout (x ∷ s) b e =
+    let k = layout .amounts in
+    let f = size-of layout (x ∷ s) e in
     let last : 2 * k + 1 ≡ suc (2 * k) = omega arith in
-    ap₂ (λ (w : List ℕ) (n : ℕ). row .lead ∷ (pairsOf w ++ getD (x ∷ s) n 0 ∷ []))
+    ap₂ (λ (w : List ℕ) (n : ℕ). layout .lead ∷ (pairsOf w ++ getD (x ∷ s) n 0 ∷ []))
     (firsts-same (λ i. wordAt (x ∷ s) (1 + 2 * i)) (λ i. wordAt s (2 * i)) k (λ i h. behind x s i)) last
     ∙ ap₂ (λ (n : ℕ) (l : List ℕ). n ∷ l) (sym (f .1)) (pairs-back k s (b .1) (omega (arith, f .0)))
 
@@ -139,12 +139,12 @@ all-fit low high step (x ∷ a) h e =
 pub allowed-fit : (v : Values) → allowedOf v ≡ true → Words (amountsOf v) × (delayOf v < 256)
 unfolding allowed
 allowed-fit v e =
-    let row = rowOf (settingOf v) in
+    let layout = layoutOf (settingOf v) in
     let h = highs (settingOf v) in
     let f =
-    both (allOf (inSteps (row .low) (row .high) (row .step)) (amountsOf v)) (inSteps (row .«delay_low») (row .«delay_high») (row .«delay_step») (delayOf v)) e in (
-      all-fit (row .low) (row .high) (row .step) (amountsOf v) (h .0) (f .0),
-      omega (arith, h .1, below (row .«delay_low») (row .«delay_high») (row .«delay_step») (delayOf v) (f .1)),
+    both (allOf (inSteps (layout .low) (layout .high) (layout .step)) (amountsOf v)) (inSteps (layout .«delay_low») (layout .«delay_high») (layout .«delay_step») (delayOf v)) e in (
+      all-fit (layout .low) (layout .high) (layout .step) (amountsOf v) (h .0) (f .0),
+      omega (arith, h .1, below (layout .«delay_low») (layout .«delay_high») (layout .«delay_step») (delayOf v) (f .1)),
     )
 
 pub info-bytes : (v : Values) → allowedOf v ≡ true → Bytes (infoOf v)
@@ -162,11 +162,11 @@ info-short v =
 pub values-read-back : (v : Values) → allowedOf v ≡ true → Set v ≡ requestOf (settingOf v) (infoOf v)
 unfolding requestOf
 values-read-back v e =
-    let row = rowOf (settingOf v) in
+    let layout = layoutOf (settingOf v) in
     let n = amounts-count v in
-    let same : valuesOf (settingOf v) (wordsIn row (infoOf v)) (delayIn row (infoOf v)) ≡ v =
-    ap₂ (valuesOf (settingOf v)) (amounts-back row (amountsOf v) (delayOf v) n (allowed-fit v e .0)) (delay-back row (amountsOf v) (delayOf v) n) ∙ values-again v in
-    rw (shape-back row (amountsOf v) (delayOf v) n, same, e)
+    let same : valuesOf (settingOf v) (wordsIn layout (infoOf v)) (delayIn layout (infoOf v)) ≡ v =
+    ap₂ (valuesOf (settingOf v)) (amounts-back layout (amountsOf v) (delayOf v) n (allowed-fit v e .0)) (delay-back layout (amountsOf v) (delayOf v) n) ∙ values-again v in
+    rw (shape-back layout (amountsOf v) (delayOf v) n, same, e)
 
 -- values that were read from a request are written again as the bytes that were read
 pub record Again (s : Setting) (d : List ℕ) (v : Values) : Type 0 where
@@ -180,18 +180,18 @@ not-refused v w h = let z : _≡_ {A = ℕ} 0 1 = cc in omega arith
 pub values-write-back : (s : Setting) (d : List ℕ) (v : Values) → Bytes d → Set v ≡ requestOf s d → Again s d v
 unfolding requestOf
 values-write-back s d v b e =
-    let row = rowOf s in
-    let w = wordsIn row d in
-    let k = delayIn row d in
-    let f = into (shaped row d) _ _ _ (not-refused v _) e in
+    let layout = layoutOf s in
+    let w = wordsIn layout d in
+    let k = delayIn layout d in
+    let f = into (shaped layout d) _ _ _ (not-refused v _) e in
     let g = into (allowedOf (valuesOf s w k)) _ _ _ (not-refused v _) (f .1) in
     let is : v ≡ valuesOf s w k = cc (g .1) in
-    let n : length w ≡ row .amounts = firsts-length (λ i. wordAt d (1 + 2 * i)) (row .amounts) in
+    let n : length w ≡ layout .amounts = firsts-length (λ i. wordAt d (1 + 2 * i)) (layout .amounts) in
     let set : settingOf v ≡ s = ap settingOf is ∙ setting-again s w k in
     record {
       setting = set;
-      info = ap (λ (q : Setting). payload (rowOf q) (amountsOf v) (delayOf v)) set
-          ∙ ap₂ (payload row) (ap amountsOf is ∙ amounts-again s w k n) (ap delayOf is ∙ delay-again s w k)
-          ∙ payload-again row d b (f .0);
+      info = ap (λ (q : Setting). payload (layoutOf q) (amountsOf v) (delayOf v)) set
+          ∙ ap₂ (payload layout) (ap amountsOf is ∙ amounts-again s w k n) (ap delayOf is ∙ delay-again s w k)
+          ∙ payload-again layout d b (f .0);
       may = ap allowedOf is ∙ g .0;
     }

@@ -1,4 +1,4 @@
--- A setting in the INFO of a reply or a request, over its row: the bytes d (01, PACE: D1, D0, DB, DA).
+-- A setting in the INFO of a reply or a request, over its layout: the bytes d (01, PACE: D1, D0, DB, DA).
 -- Assumes nothing.
 use mathlib.Core.Bool.{Bool, true, false, _&&_}
 use mathlib.Core.List.{List, map}
@@ -10,24 +10,24 @@ use Rattle.laws.specs.Choice.{pick}
 use Rattle.signs.specs.Signed.{signedOf}
 use Rattle.refusals.specs.Refused.{refusedWith, shape, range}
 use Rattle.characters_pace.specs.Characters.{allOf, wordsAt}
-use Rattle.rows_pace.specs.declared.Setting.{Setting}
-use Rattle.rows_pace.specs.declared.Row.{Row}
-use Rattle.rows_pace.specs.Rows.{rowOf, valuesOf}
+use Rattle.commands_pace.specs.declared.Setting.{Setting}
+use Rattle.commands_pace.specs.declared.Layout.{Layout}
+use Rattle.commands_pace.specs.Settings.{layoutOf, valuesOf}
 use Rattle.writes_pace.specs.Allowed.{allowedOf}
 use Rattle.settings_pace.specs.declared.Amount.{Amount}
 use Rattle.settings_pace.specs.declared.Amount.the-variants.{Is, Positive}
 use Rattle.settings_pace.specs.declared.Found.{Found}
 use Rattle.settings_pace.specs.declared.Found.the-variants.{Set, Refused}
 
--- of the row's length, with the row's lead byte
-unfoldable pub shaped : Row → List ℕ → Bool
-shaped row d = eqb (length d) (2 * row .amounts + 2) && eqb (getD d 0 0) (row .lead)
+-- of the layout's length, with the layout's lead byte
+unfoldable pub shaped : Layout → List ℕ → Bool
+shaped layout d = eqb (length d) (2 * layout .amounts + 2) && eqb (getD d 0 0) (layout .lead)
 
-abbrev pub wordsIn : Row → List ℕ → List ℕ
-wordsIn row d = wordsAt 1 (row .amounts) d
+abbrev pub wordsIn : Layout → List ℕ → List ℕ
+wordsIn layout d = wordsAt 1 (layout .amounts) d
 
-abbrev pub delayIn : Row → List ℕ → ℕ
-delayIn row d = getD d (2 * row .amounts + 1) 0
+abbrev pub delayIn : Layout → List ℕ → ℕ
+delayIn layout d = getD d (2 * layout .amounts + 1) 0
 
 -- a negated amount: -n stands for n, and a positive number for none
 abbrev pub opposite : ℤ → Amount
@@ -35,7 +35,7 @@ opposite (pos zero) = Is 0
 opposite (pos (suc n)) = Positive
 opposite (negsuc n) = Is (suc n)
 
--- what two bytes of a reply stand for: in a negated row they are a signed number
+-- what two bytes of a reply stand for: in a negated layout they are a signed number
 unfoldable pub amountOf : Bool → ℕ → Amount
 amountOf false w = Is w
 amountOf true w = opposite (signedOf 15 w)
@@ -48,20 +48,20 @@ abbrev pub amountIn : Amount → ℕ
 amountIn (Is n) = n
 amountIn Positive = 0
 
--- a reply: 8, 9 (a positive amount in a negated row), or the values, all of them kept
+-- a reply: 8, 9 (a positive amount in a negated layout), or the values, all of them kept
 unfoldable pub replyOf : Setting → List ℕ → Found
 replyOf s d =
-    pick (shaped (rowOf s) d)
-    (pick (allOf (λ w. isAmount (amountOf (rowOf s .negated) w)) (wordsIn (rowOf s) d))
-    (Set (valuesOf s (map (λ w. amountIn (amountOf (rowOf s .negated) w)) (wordsIn (rowOf s) d)) (delayIn (rowOf s) d)))
+    pick (shaped (layoutOf s) d)
+    (pick (allOf (λ w. isAmount (amountOf (layoutOf s .negated) w)) (wordsIn (layoutOf s) d))
+    (Set (valuesOf s (map (λ w. amountIn (amountOf (layoutOf s .negated) w)) (wordsIn (layoutOf s) d)) (delayIn (layoutOf s) d)))
     (Refused (refusedWith range)))
     (Refused (refusedWith shape))
 
 -- a request: 8, 9, or the values, which hold the plain amounts
 unfoldable pub requestOf : Setting → List ℕ → Found
 requestOf s d =
-    pick (shaped (rowOf s) d)
-    (pick (allowedOf (valuesOf s (wordsIn (rowOf s) d) (delayIn (rowOf s) d)))
-    (Set (valuesOf s (wordsIn (rowOf s) d) (delayIn (rowOf s) d)))
+    pick (shaped (layoutOf s) d)
+    (pick (allowedOf (valuesOf s (wordsIn (layoutOf s) d) (delayIn (layoutOf s) d)))
+    (Set (valuesOf s (wordsIn (layoutOf s) d) (delayIn (layoutOf s) d)))
     (Refused (refusedWith range)))
     (Refused (refusedWith shape))

@@ -2,14 +2,14 @@
 // INFO comes as characters; where they are no bytes that is refused first, and the rest is said of the bytes that they carry.
 use characters_pace::byte_of;
 use characters_pace::fault_of;
+use commands_pace::Layout;
+use commands_pace::Setting;
+use commands_pace::Values;
+use commands_pace::layout_of;
+use commands_pace::values_of;
 use lists_pace::words_of;
 use refusals::Refusal;
 use refusals::refuse;
-use rows_pace::Row;
-use rows_pace::Setting;
-use rows_pace::Values;
-use rows_pace::row_of;
-use rows_pace::values_of;
 use signs::signed16;
 use writes_pace::may_write;
 ghost use mathlib.Core.Path.{_≡_};
@@ -46,16 +46,16 @@ pub fn parse_setting(setting: Setting, info: &[u8]) -> Found
     in_request(setting, info)
 }
 
-// In a reply all values are kept; a positive amount in a negated row is refused.
+// In a reply all values are kept; a positive amount in a negated layout is refused.
 fn in_reply(setting: Setting, info: &[u8]) -> Found
     ensures { λ r. ⌜ r ≡ replyOf setting (bytesIn (now (info .entry))) ⌝ }
 {
-    let row = row_of(setting);
-    if !has_shape(row, info) {
+    let layout = layout_of(setting);
+    if !has_shape(layout, info) {
         return Found::Refused(refuse(refusals::SHAPE));
     }
-    let n = row.amounts;
-    let negated = row.negated;
+    let n = layout.amounts;
+    let negated = layout.negated;
     let mut amounts = [0u16; 3];
     words_of(info, 1, &mut amounts[0..n]);
     if !all_readable(negated, &amounts[0..n]) {
@@ -69,11 +69,11 @@ fn in_reply(setting: Setting, info: &[u8]) -> Found
 fn in_request(setting: Setting, info: &[u8]) -> Found
     ensures { λ r. ⌜ r ≡ requestOf setting (bytesIn (now (info .entry))) ⌝ }
 {
-    let row = row_of(setting);
-    if !has_shape(row, info) {
+    let layout = layout_of(setting);
+    if !has_shape(layout, info) {
         return Found::Refused(refuse(refusals::SHAPE));
     }
-    let n = row.amounts;
+    let n = layout.amounts;
     let mut amounts = [0u16; 3];
     words_of(info, 1, &mut amounts[0..n]);
     let v = values_of(setting, amounts, byte_of(info, 2 * n + 1));
@@ -83,15 +83,15 @@ fn in_request(setting: Setting, info: &[u8]) -> Found
     Found::Set(v)
 }
 
-// Whether INFO has the row's length and lead byte.
-fn has_shape(row: Row, info: &[u8]) -> bool
-    requires { ⌜ row .amounts ≤ 3 ⌝ }
-    ensures { λ r. ⌜ r ≡ shaped row (bytesIn (now (info .entry))) ⌝ }
+// Whether INFO has the layout's length and lead byte.
+fn has_shape(layout: Layout, info: &[u8]) -> bool
+    requires { ⌜ layout .amounts ≤ 3 ⌝ }
+    ensures { λ r. ⌜ r ≡ shaped layout (bytesIn (now (info .entry))) ⌝ }
 {
-    if info.len() / 2 != 2 * row.amounts + 2 {
+    if info.len() / 2 != 2 * layout.amounts + 2 {
         return false;
     }
-    byte_of(info, 0) == row.lead
+    byte_of(info, 0) == layout.lead
 }
 
 // What two bytes of a reply stand for.

@@ -12,7 +12,7 @@ use Rattle.frames_tongzhu.specs.Functions.{kindOf}
 use Rattle.frames_written_tongzhu.specs.Writing.{frameBytes}
 use Rattle.requests_tongzhu.specs.Requests.{faultOf}
 use Rattle.characters_pace.specs.Characters.{allOf, halves}
-use Rattle.rows_pace.specs.Rows.{rowOf}
+use Rattle.commands_pace.specs.Settings.{layoutOf}
 use Rattle.writes_pace.specs.Info.{payload}
 use Rattle.settings_pace.specs.Reading.{shaped, amountOf, replyOf}
 use Rattle.analog_pace.specs.Analog.{tenthsOf}
@@ -24,7 +24,7 @@ pub worked-examples-hold : every worked ≡ true
 unfolding
     shift shifts crcFrom crcOf total wordOf
     bcdByte leap days daysIn realDate realTime kindOf frameBytes faultOf
-    allOf halves firsts rowOf payload shaped amountOf replyOf tenthsOf
+    allOf halves firsts layoutOf payload shaped amountOf replyOf tenthsOf
     twoAt currentOf currentAt
     writes
     alike every worked

@@ -1,20 +1,20 @@
-// Writing a PACE setting: whether its values may be written, and the INFO of the request that writes them, by its row (004, "Parameter
+// Writing a PACE setting: whether its values may be written, and the INFO of the request that writes them, by its layout (004, "Parameter
 // Setting" tab; 01, PACE).
+use commands_pace::Setting;
+use commands_pace::Values;
+use commands_pace::layout_of;
 use numbers::Order;
 use numbers::bytes16;
-use rows_pace::Setting;
-use rows_pace::Values;
-use rows_pace::row_of;
 ghost use mathlib.Core.Path.{_≡_};
 ghost use mathlib.Core.List.{_++_};
 ghost use Prim.Native.Nat.{_*_, _<_};
 ghost use lib.ListN.{length, drop, replicate};
 ghost use Rattle.characters_pace.specs.Characters.{allOf};
-ghost use Rattle.rows_pace.specs.Rows.{settingOf, amountsOf, delayOf};
+ghost use Rattle.commands_pace.specs.Settings.{settingOf, amountsOf, delayOf};
 ghost use Rattle.writes_pace.specs.Allowed.{inSteps, allowedOf};
 ghost use Rattle.writes_pace.specs.Info.{pairsOf, infoRecord};
 
-// The values of a setting with their places counted; places past the row's amounts are 0.
+// The values of a setting with their places counted; places past the layout's amounts are 0.
 struct Parts {
     setting: Setting,
     amounts: [u16; 3],
@@ -47,22 +47,22 @@ fn parts_of(v: Values) -> Parts
     }
 }
 
-// Whether the values may be written: amounts and delay in the row's ranges and steps.
+// Whether the values may be written: amounts and delay in the layout's ranges and steps.
 pub fn may_write(v: Values) -> bool
     ensures { λ r. ⌜ r ≡ allowedOf v ⌝ }
 {
     let p = parts_of(v);
     let setting = p.setting;
-    let row = row_of(setting);
-    let n = row.amounts;
+    let layout = layout_of(setting);
+    let n = layout.amounts;
     let amounts = p.amounts;
-    if !all_within(row.low, row.high, row.step, &amounts[0..n]) {
+    if !all_within(layout.low, layout.high, layout.step, &amounts[0..n]) {
         return false;
     }
     is_within(
-        row.delay_low as u16,
-        row.delay_high as u16,
-        row.delay_step as u16,
+        layout.delay_low as u16,
+        layout.delay_high as u16,
+        layout.delay_step as u16,
         p.delay as u16,
     )
 }
@@ -107,15 +107,15 @@ pub fn info_of(v: Values) -> Info
 {
     let p = parts_of(v);
     let setting = p.setting;
-    let row = row_of(setting);
-    let n = row.amounts;
+    let layout = layout_of(setting);
+    let n = layout.amounts;
     let amounts = p.amounts;
     let mut bytes = [0u8; 8];
-    bytes[0] = row.lead;
+    bytes[0] = layout.lead;
     put_words(&amounts[0..n], &mut bytes[1..2 * n + 1]);
     bytes[2 * n + 1] = p.delay;
     Info {
-        command: row.writes,
+        command: layout.writes,
         bytes,
         len: 2 * n + 2,
     }

@@ -1,7 +1,7 @@
 -- `exports_old58::pack_numbers` meets its contract, number by number.
 -- Assumes nothing.
 use mathlib.Core.Path.{refl}
-use Rattle.exports_rows.proofs.Same.{same}
+use Rattle.exports_answers.proofs.Same.{same}
 use borrow.Author.Needs.{needs}
 use Rattle.exports_old58.proofs.pack_numbers.Statement.{statement}
 use Rattle.exports_old58.proofs.pack_numbers.Tie as tie

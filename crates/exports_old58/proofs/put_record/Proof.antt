@@ -6,7 +6,7 @@ use mathlib.Core.List.{List}
 use lib.IntN.{ℤ}
 use Rattle.old58.specs.Record.{recordOf}
 use Rattle.exports_parts.specs.Parts.{placed}
-use Rattle.exports_rows.proofs.Placing.{total, parts-told, parts-untold}
+use Rattle.exports_answers.proofs.Placing.{total, parts-told, parts-untold}
 use Rattle.exports_old58.specs.Records.{packNumbers, extremesNumbers, cellNumbers, energyNumbers, setupNumbers, partsOf, sizes}
 use Rattle.exports_old58.proofs.Small.{pack-small, extremes-small, cell-small, energy-small}
 use borrow.Author.Needs.{needs}

@@ -1,7 +1,7 @@
 -- `exports_old58::setup_numbers` meets its contract, number by number.
 -- Assumes nothing.
 use mathlib.Core.Path.{refl}
-use Rattle.exports_rows.proofs.Same.{cast}
+use Rattle.exports_answers.proofs.Same.{cast}
 use native.Mathlib.Omega.{arith}
 use borrow.Author.Needs.{needs}
 use Rattle.exports_old58.proofs.setup_numbers.Statement.{statement}

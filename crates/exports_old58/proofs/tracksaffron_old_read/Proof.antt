@@ -3,7 +3,7 @@
 use mathlib.Core.Path.{refl, sym, ap, _∙_}
 use Rattle.old58.specs.declared.Judged.{Judged}
 use Rattle.old58.specs.Read.{readAs, readingOf}
-use Rattle.exports_rows.proofs.Telling.{told-numbers, told-refused}
+use Rattle.exports_answers.proofs.Telling.{told-numbers, told-refused}
 use Rattle.exports_old58.specs.Records.{toldOf}
 use borrow.Author.Needs.{needs}
 use Rattle.exports_old58.proofs.tracksaffron_old_read.Statement.{statement}

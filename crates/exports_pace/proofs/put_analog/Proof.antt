@@ -2,7 +2,7 @@
 -- Assumes nothing.
 use mathlib.Core.Path.{refl}
 use native.Mathlib.Omega.{arith}
-use Rattle.exports_rows.proofs.Placing.{total}
+use Rattle.exports_answers.proofs.Placing.{total}
 use Rattle.exports_pace.specs.Replies.{analogNumbers}
 use Rattle.exports_pace.proofs.Rows.{record-untold, record-told}
 use borrow.Author.Needs.{needs}

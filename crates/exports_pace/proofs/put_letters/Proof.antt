@@ -5,7 +5,7 @@ use mathlib.Core.Path.{_≡_, sym, ap, _∙_}
 use native.Mathlib.Omega.{arith}
 use lib.ListN.{length, take}
 use lib.Seq.{take-all}
-use Rattle.exports_rows.specs.Told.{roomCode, over}
+use Rattle.exports_answers.specs.Told.{roomCode, over}
 use borrow.Author.Needs.{needs}
 use Rattle.exports_pace.proofs.put_letters.Statement.{statement}
 use Rattle.exports_pace.proofs.put_letters.Tie as tie

@@ -2,8 +2,8 @@
 -- Assumes nothing.
 use mathlib.Core.Path.{refl, sym, ap}
 use native.Mathlib.Omega.{arith}
-use Rattle.exports_rows.proofs.Same.{cast}
-use Rattle.exports_rows.proofs.Telling.{told-numbers}
+use Rattle.exports_answers.proofs.Same.{cast}
+use Rattle.exports_answers.proofs.Telling.{told-numbers}
 use Rattle.exports_pace.specs.Replies.{valuesTold}
 use borrow.Author.Needs.{needs}
 use Rattle.exports_pace.proofs.put_values.Statement.{statement}

@@ -5,7 +5,7 @@ use mathlib.Core.List.{map}
 use native.Mathlib.Omega.{arith}
 use lib.IntN.{pos}
 use lib.ListN.{length-map}
-use Rattle.exports_rows.proofs.Placing.{total}
+use Rattle.exports_answers.proofs.Placing.{total}
 use Rattle.exports_pace.specs.Replies.{warningNumbers}
 use Rattle.exports_pace.proofs.Rows.{record-untold, record-told}
 use borrow.Author.Needs.{needs}

@@ -1,7 +1,7 @@
 -- `exports_pace::tell` meets its contract: by the answer; the calls that put the values say the rest.
 -- Assumes nothing.
 use mathlib.Core.Path.{refl, sym, ap}
-use Rattle.exports_rows.proofs.Telling.{tells-numbers, tells-letters, tells-plain, tells-refused}
+use Rattle.exports_answers.proofs.Telling.{tells-numbers, tells-letters, tells-plain, tells-refused}
 use Rattle.exports_pace.specs.Replies.{toldAs, toldOf}
 use Rattle.exports_pace.proofs.Rows.{tells-values}
 use borrow.Author.Needs.{needs}

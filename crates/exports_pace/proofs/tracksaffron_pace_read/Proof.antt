@@ -2,7 +2,7 @@
 -- Assumes nothing.
 use mathlib.Core.Path.{ap, _∙_}
 use lib.ListN.{length}
-use Rattle.exports_rows.specs.Told.{codeOf, rowAfter, textAfter}
+use Rattle.exports_answers.specs.Told.{codeOf, rowAfter, textAfter}
 use Rattle.exports_pace.specs.Replies.{toldOf}
 use borrow.Author.Needs.{needs}
 use Rattle.exports_pace.proofs.tracksaffron_pace_read.Statement.{statement}

@@ -5,7 +5,7 @@ use mathlib.Core.Path.{refl, ap, _∙_}
 use mathlib.Core.List.{[], _∷_}
 use lib.ListN.{length, set}
 use Rattle.laws.proofs.Filling.{one-more}
-use Rattle.exports_rows.proofs.Placing.{no-room, kind-told, values-over}
+use Rattle.exports_answers.proofs.Placing.{no-room, kind-told, values-over}
 use borrow.Author.Needs.{needs}
 use Rattle.exports_pathfinder.proofs.put_found.Statement.{statement}
 use Rattle.exports_pathfinder.proofs.put_found.Tie as tie

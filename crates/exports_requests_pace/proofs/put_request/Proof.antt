@@ -4,8 +4,8 @@ use mathlib.Core.Path.{refl, sym, ap}
 use native.Mathlib.Omega.{arith}
 use mir.Syntax.{w32}
 use mir.ValLaws.{toZ-pos}
-use Rattle.exports_rows.proofs.Same.{then}
-use Rattle.exports_rows.proofs.Telling.{told-numbers}
+use Rattle.exports_answers.proofs.Same.{then}
+use Rattle.exports_answers.proofs.Telling.{told-numbers}
 use Rattle.exports_requests_pace.specs.Requests.{requestTold}
 use borrow.Author.Needs.{needs}
 use Rattle.exports_requests_pace.proofs.put_request.Statement.{statement}

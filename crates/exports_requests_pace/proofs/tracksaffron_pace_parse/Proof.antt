@@ -2,7 +2,7 @@
 -- Assumes nothing.
 use mathlib.Core.Path.{sym, ap, _∙_}
 use Rattle.requests_pace.specs.Parsed.{parsedOf}
-use Rattle.exports_rows.proofs.Telling.{told-refused}
+use Rattle.exports_answers.proofs.Telling.{told-refused}
 use Rattle.exports_requests_pace.specs.Requests.{toldRequest}
 use borrow.Author.Needs.{needs}
 use Rattle.exports_requests_pace.proofs.tracksaffron_pace_parse.Statement.{statement}

@@ -5,8 +5,8 @@ use mathlib.Core.Path.{_≡_, refl, sym, ap}
 use mir.Syntax.{w32}
 use mir.Val.{toZ, ofZ}
 use mir.ValLaws.{toZ-pos}
-use Rattle.exports_rows.proofs.Same.{then}
-use Rattle.exports_rows.proofs.Telling.{told-numbers}
+use Rattle.exports_answers.proofs.Same.{then}
+use Rattle.exports_answers.proofs.Telling.{told-numbers}
 use Rattle.exports_requests_pathfinder.specs.Codes.{toldFields}
 use borrow.Author.Needs.{needs}
 use Rattle.exports_requests_pathfinder.proofs.tell_fields.Statement.{statement}

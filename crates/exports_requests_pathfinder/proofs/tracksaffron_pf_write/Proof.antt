@@ -9,7 +9,7 @@ use Rattle.refusals.specs.Writing.{roomAfter}
 use Rattle.requests_pathfinder.specs.declared.Request.{Request}
 use Rattle.requests_pathfinder.specs.declared.Request.the-variants.{Write}
 use Rattle.requests_pathfinder.specs.Requests.{frameFor, sentAs}
-use Rattle.exports_rows.specs.Writing.{writtenCode}
+use Rattle.exports_answers.specs.Writing.{writtenCode}
 use borrow.Author.Needs.{needs}
 use Rattle.exports_requests_pathfinder.proofs.tracksaffron_pf_write.Statement.{statement}
 use Rattle.exports_requests_pathfinder.proofs.tracksaffron_pf_write.Tie as tie

@@ -2,7 +2,7 @@
 -- Assumes nothing.
 use mathlib.Core.Path.{sym, ap, _∙_}
 use Rattle.requests_read_tongzhu.specs.Reading.{parsedOf}
-use Rattle.exports_rows.proofs.Telling.{told-refused}
+use Rattle.exports_answers.proofs.Telling.{told-refused}
 use Rattle.exports_requests_tongzhu.specs.Requests.{toldRequest}
 use borrow.Author.Needs.{needs}
 use Rattle.exports_requests_tongzhu.proofs.tracksaffron_tz_parse.Statement.{statement}

@@ -3,7 +3,7 @@
 use mathlib.Core.Path.{_≡_, refl, sym, ap, _∙_}
 use mathlib.Core.Bool.{true, false}
 use Rattle.restore_jobs.specs.Jobs.{leftOf}
-use Rattle.exports_rows.specs.Told.{codedAs}
+use Rattle.exports_answers.specs.Told.{codedAs}
 use Rattle.restore_bytes.specs.Jobs.{isJob}
 use borrow.Author.Needs.{needs}
 use Rattle.exports_restore.proofs.tracksaffron_restore_left.Statement.{statement}

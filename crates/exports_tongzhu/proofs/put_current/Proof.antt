@@ -4,8 +4,8 @@ use mathlib.Core.Path.{refl}
 use mathlib.Core.List.{[], _∷_}
 use mir.Syntax.{w16}
 use Rattle.widths.proofs.Widening.{signed-fits, signed-then}
-use Rattle.exports_rows.specs.Told.{numbers}
-use Rattle.exports_rows.proofs.Telling.{told-numbers}
+use Rattle.exports_answers.specs.Told.{numbers}
+use Rattle.exports_answers.proofs.Telling.{told-numbers}
 use borrow.Author.Needs.{needs}
 use Rattle.exports_tongzhu.proofs.put_current.Statement.{statement}
 use Rattle.exports_tongzhu.proofs.put_current.Tie as tie

@@ -2,7 +2,7 @@
 -- Assumes nothing.
 use mathlib.Core.Path.{refl, sym, ap, _∙_}
 use Rattle.exports_parts.specs.Parts.{placed}
-use Rattle.exports_rows.proofs.Placing.{total, parts-told, parts-untold}
+use Rattle.exports_answers.proofs.Placing.{total, parts-told, parts-untold}
 use Rattle.monitor3_tongzhu.specs.Layout.{listsAt}
 use Rattle.lists_tongzhu.specs.Lists.{placedLists}
 use Rattle.lists_tongzhu.proofs.Listed.{lists-sized, listed-all}

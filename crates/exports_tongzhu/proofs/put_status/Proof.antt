@@ -2,8 +2,8 @@
 -- Assumes nothing.
 use mathlib.Core.Path.{refl}
 use Rattle.flat_tongzhu.specs.Numbers.{statusNumbers}
-use Rattle.exports_rows.specs.Told.{numbers}
-use Rattle.exports_rows.proofs.Telling.{told-numbers}
+use Rattle.exports_answers.specs.Told.{numbers}
+use Rattle.exports_answers.proofs.Telling.{told-numbers}
 use borrow.Author.Needs.{needs}
 use Rattle.exports_tongzhu.proofs.put_status.Statement.{statement}
 use Rattle.exports_tongzhu.proofs.put_status.Tie as tie

@@ -5,7 +5,7 @@ use mathlib.Core.List.{[], _∷_}
 use lib.IntN.{ℤ}
 use mir.Syntax.{w16}
 use mir.Val.{toZ, ofZ}
-use Rattle.exports_rows.proofs.Telling.{told-numbers}
+use Rattle.exports_answers.proofs.Telling.{told-numbers}
 use Rattle.exports_tongzhu.specs.Replies.{toldIn}
 use borrow.Author.Needs.{needs}
 use Rattle.exports_tongzhu.proofs.tell.Statement.{statement}

@@ -8,7 +8,7 @@ use Rattle.frames_tongzhu.specs.Functions.{kindOf}
 use Rattle.monitor3_tongzhu.specs.Layout.{foundAt}
 use Rattle.records_tongzhu.specs.declared.Answer.{Answer}
 use Rattle.records_tongzhu.specs.Replies.{answerIn, payloadOf, answerTo}
-use Rattle.exports_rows.specs.Told.{codeOf, rowAfter}
+use Rattle.exports_answers.specs.Told.{codeOf, rowAfter}
 use Rattle.exports_tongzhu.specs.Replies.{toldIn}
 use borrow.Author.Needs.{needs}
 use Rattle.exports_tongzhu.proofs.tell_payload.Statement.{statement}

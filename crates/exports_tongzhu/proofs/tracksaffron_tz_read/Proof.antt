@@ -10,8 +10,8 @@ use Rattle.frames_tongzhu.specs.declared.Frame.the-variants.{Whole}
 use Rattle.records_tongzhu.specs.declared.Reply.{Reply}
 use Rattle.records_tongzhu.specs.Replies.{replyOf}
 use Rattle.records_tongzhu.proofs.Answers.{no-frame, whole-frame}
-use Rattle.exports_rows.specs.Told.{codeOf, rowAfter}
-use Rattle.exports_rows.proofs.Telling.{told-refused}
+use Rattle.exports_answers.specs.Told.{codeOf, rowAfter}
+use Rattle.exports_answers.proofs.Telling.{told-refused}
 use Rattle.exports_tongzhu.specs.Replies.{toldOf}
 use borrow.Author.Needs.{needs}
 use Rattle.exports_tongzhu.proofs.tracksaffron_tz_read.Statement.{statement}

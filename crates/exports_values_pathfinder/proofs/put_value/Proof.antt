@@ -8,7 +8,7 @@ use lib.ListN.{length, set}
 use mir.Syntax.{w64}
 use mir.ValLaws.{toZ-ofZ}
 use Rattle.laws.proofs.Filling.{one-more}
-use Rattle.exports_rows.proofs.Placing.{no-room, kind-told, values-over}
+use Rattle.exports_answers.proofs.Placing.{no-room, kind-told, values-over}
 use borrow.Author.Needs.{needs}
 use Rattle.exports_values_pathfinder.proofs.put_value.Statement.{statement}
 use Rattle.exports_values_pathfinder.proofs.put_value.Tie as tie

@@ -3,8 +3,8 @@
 use mathlib.Core.Path.{_≡_, refl, sym, ap, _∙_}
 use mir.Syntax.{w64}
 use mir.Val.{toZ, ofZ}
-use Rattle.exports_rows.proofs.Same.{then}
-use Rattle.exports_rows.proofs.Telling.{told-numbers}
+use Rattle.exports_answers.proofs.Same.{then}
+use Rattle.exports_answers.proofs.Telling.{told-numbers}
 use Rattle.exports_values_pathfinder.specs.Values.{toldRow}
 use borrow.Author.Needs.{needs}
 use Rattle.exports_values_pathfinder.proofs.tell_row.Statement.{statement}

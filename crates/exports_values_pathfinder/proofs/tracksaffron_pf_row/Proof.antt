@@ -5,7 +5,7 @@ use lib.ListN.{length}
 use mir.Syntax.{w32}
 use mir.ValLaws.{toZ-ofZ}
 use Rattle.rows_pathfinder.specs.Narrowing.{rowOf}
-use Rattle.exports_rows.specs.Told.{codeOf, rowAfter}
+use Rattle.exports_answers.specs.Told.{codeOf, rowAfter}
 use Rattle.exports_values_pathfinder.specs.Values.{toldRow}
 use borrow.Author.Needs.{needs}
 use Rattle.exports_values_pathfinder.proofs.tracksaffron_pf_row.Statement.{statement}

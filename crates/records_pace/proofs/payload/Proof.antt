@@ -3,7 +3,7 @@
 use mathlib.Core.Path.{_≡_, sym, ap, _∙_}
 use Rattle.characters_pace.specs.Characters.{bytesIn, faultOf}
 use Rattle.characters_pace.proofs.Checked.{checked-bytes}
-use Rattle.rows_pace.specs.declared.Command.{Command}
+use Rattle.commands_pace.specs.declared.Command.{Command}
 use Rattle.records_pace.specs.Reply.{ofAnalog, ofWarnings, ofSetting, payloadReply}
 use borrow.Author.Needs.{needs}
 use Rattle.records_pace.proofs.payload.Statement.{statement}

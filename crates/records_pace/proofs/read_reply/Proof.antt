@@ -7,7 +7,7 @@ use native.Mathlib.Omega.{arith}
 use Rattle.frames_pace.specs.declared.Frame.the-variants.{Whole}
 use Rattle.frames_pace.specs.Frame.{frameOf}
 use Rattle.frames_pace.proofs.Whole.{Said, whole-says, info-lent, info-hex}
-use Rattle.rows_pace.specs.declared.Command.{Command}
+use Rattle.commands_pace.specs.declared.Command.{Command}
 use Rattle.records_pace.specs.Reply.{answeredOf}
 use Rattle.records_pace.proofs.Cases.{no-frame, other-address, same-address}
 use borrow.Author.Needs.{needs}

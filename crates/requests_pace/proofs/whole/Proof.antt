@@ -1,7 +1,7 @@
 -- `requests_pace::whole` meets its contract: each way out is the case of `wholeOf` that its tests name.
 -- Assumes nothing.
 use mathlib.Core.Path.{_≡_, sym, ap, _∙_}
-use Rattle.rows_pace.specs.Commands.{commandOf}
+use Rattle.commands_pace.specs.Commands.{commandOf}
 use Rattle.requests_pace.specs.declared.Kind.{Kind}
 use Rattle.requests_pace.specs.declared.Parsed.the-variants.{Refused}
 use Rattle.requests_pace.specs.Request.{kindOf}

@@ -4,7 +4,7 @@ use mathlib.Core.Path.{_≡_, refl, sym, ap, _∙_}
 use native.Mathlib.Omega.{arith}
 use Rattle.refusals.specs.Refused.{request, shape}
 use Rattle.refusals.proofs.Writing.{faulty}
-use Rattle.rows_pace.specs.Commands.{commandOf}
+use Rattle.commands_pace.specs.Commands.{commandOf}
 use Rattle.requests_pace.specs.declared.Kind.{Kind}
 use Rattle.requests_pace.specs.declared.Request.the-variants.{Ask}
 use Rattle.requests_pace.specs.Request.{kindOf, askInfo}

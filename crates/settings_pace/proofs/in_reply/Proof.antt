@@ -16,19 +16,19 @@ use Rattle.settings_pace.proofs.in_reply.Statement.{statement}
 use Rattle.settings_pace.proofs.in_reply.Tie as tie
 
 -- the words, once they are read, fill the front of the array
-abbrev wide : (c : tie.After-amounts2) → length (putMid 0 (c .before .before .before .before .before .row-of .result .amounts - 0) places (c .before .words-of .last .1 .1 .0)) ≡ 3
+abbrev wide : (c : tie.After-amounts2) → length (putMid 0 (c .before .before .before .before .before .layout-of .result .amounts - 0) places (c .before .words-of .last .1 .1 .0)) ≡ 3
 wide c =
     let w = c .before in
     let h = w .before .before .before in
     let a = h .before .before .before .args in
-    filled-length (a .setting) (h .before .row-of .result) (h .before .row-of .ensures) (bytesIn (a .info .now)) (h .has-shape .result) (h .has-shape .ensures) (not-false _ (w .before .before .if1 .left)) _ (w .words-of .ensures)
+    filled-length (a .setting) (h .before .layout-of .result) (h .before .layout-of .ensures) (bytesIn (a .info .now)) (h .has-shape .result) (h .has-shape .ensures) (not-false _ (w .before .before .if1 .left)) _ (w .words-of .ensures)
 
--- the row is the setting's, and the bytes are those of INFO
-abbrev small : (c : tie.After-row-of) → c .row-of .result .amounts ≤ 3
-small c = setting-few (c .before .before .args .setting) (c .row-of .result) (c .row-of .ensures) (bytesIn (c .before .before .args .info .now))
+-- the layout is the setting's, and the bytes are those of INFO
+abbrev small : (c : tie.After-layout-of) → c .layout-of .result .amounts ≤ 3
+small c = setting-few (c .before .before .args .setting) (c .layout-of .result) (c .layout-of .ensures) (bytesIn (c .before .before .args .info .now))
 
-row-of-requires : tie.Need-row-of-requires
-row-of-requires c κs = search needs
+layout-of-requires : tie.Need-layout-of-requires
+layout-of-requires c κs = search needs
 
 has-shape-requires : tie.Need-has-shape-requires
 has-shape-requires c κs = small c
@@ -42,7 +42,7 @@ returns c =
     let r = h .before in
     let a = r .before .before .args in
     ap Refused (c .refuse .ensures)
-    ∙ misread (a .setting) (r .row-of .result) (r .row-of .ensures) (bytesIn (a .info .now)) (h .has-shape .result) (h .has-shape .ensures) (not-true _ (c .before .if1 .taken))
+    ∙ misread (a .setting) (r .layout-of .result) (r .layout-of .ensures) (bytesIn (a .info .now)) (h .has-shape .result) (h .has-shape .ensures) (not-true _ (c .before .if1 .taken))
 
 sub-words-of : tie.Need-sub-words-of
 sub-words-of c = search needs
@@ -80,7 +80,7 @@ returns-2 c =
     let r = h .before in
     let a = r .before .before .args in
     ap Refused (c .refuse2 .ensures)
-    ∙ unread (a .setting) (r .row-of .result) (r .row-of .ensures) (bytesIn (a .info .now)) (h .has-shape .result) (h .has-shape .ensures) (not-false _ (one .if1 .left))
+    ∙ unread (a .setting) (r .layout-of .result) (r .layout-of .ensures) (bytesIn (a .info .now)) (h .has-shape .result) (h .has-shape .ensures) (not-false _ (one .if1 .left))
     _ (w .words-of .ensures) (test .all-readable .result) (test .all-readable .ensures) (not-true _ (c .before .if2 .taken))
 
 sub-turn : tie.Need-sub-turn
@@ -119,14 +119,14 @@ returns-3 c =
     let r = h .before in
     let a = r .before .before .args in
     ap Set (c .values-of .ensures)
-    ∙ read (a .setting) (r .row-of .result) (r .row-of .ensures) (bytesIn (a .info .now)) (h .has-shape .result) (h .has-shape .ensures) (not-false _ (one .if1 .left))
+    ∙ read (a .setting) (r .layout-of .result) (r .layout-of .ensures) (bytesIn (a .info .now)) (h .has-shape .result) (h .has-shape .ensures) (not-false _ (one .if1 .left))
     _ (w .words-of .ensures) (test .all-readable .result) (test .all-readable .ensures) (not-false _ (two .if2 .left)) _ (b .byte-of .result) (turned .turn .ensures) (b .byte-of .ensures)
 
 pub in-reply-spec : {M : Type 1} → statement M
 in-reply-spec =
     tie.close
     (tie.spec
-    row-of-requires
+    layout-of-requires
     has-shape-requires
     refuse-requires
     returns

@@ -11,12 +11,12 @@ use borrow.Author.Needs.{needs}
 use Rattle.settings_pace.proofs.in_request.Statement.{statement}
 use Rattle.settings_pace.proofs.in_request.Tie as tie
 
--- the row is the setting's, and the bytes are those of INFO
-abbrev small : (c : tie.After-row-of) → c .row-of .result .amounts ≤ 3
-small c = setting-few (c .before .before .args .setting) (c .row-of .result) (c .row-of .ensures) (bytesIn (c .before .before .args .info .now))
+-- the layout is the setting's, and the bytes are those of INFO
+abbrev small : (c : tie.After-layout-of) → c .layout-of .result .amounts ≤ 3
+small c = setting-few (c .before .before .args .setting) (c .layout-of .result) (c .layout-of .ensures) (bytesIn (c .before .before .args .info .now))
 
-row-of-requires : tie.Need-row-of-requires
-row-of-requires c κs = search needs
+layout-of-requires : tie.Need-layout-of-requires
+layout-of-requires c κs = search needs
 
 has-shape-requires : tie.Need-has-shape-requires
 has-shape-requires c κs = small c
@@ -30,7 +30,7 @@ returns c =
     let r = h .before in
     let a = r .before .before .args in
     ap Refused (c .refuse .ensures)
-    ∙ misparsed (a .setting) (r .row-of .result) (r .row-of .ensures) (bytesIn (a .info .now)) (h .has-shape .result) (h .has-shape .ensures) (not-true _ (c .before .if1 .taken))
+    ∙ misparsed (a .setting) (r .layout-of .result) (r .layout-of .ensures) (bytesIn (a .info .now)) (h .has-shape .result) (h .has-shape .ensures) (not-true _ (c .before .if1 .taken))
 
 sub-words-of : tie.Need-sub-words-of
 sub-words-of c = search needs
@@ -73,7 +73,7 @@ returns-2 c =
     let r = h .before in
     let a = r .before .before .args in
     ap Refused (c .refuse2 .ensures)
-    ∙ unparsed (a .setting) (r .row-of .result) (r .row-of .ensures) (bytesIn (a .info .now)) (h .has-shape .result) (h .has-shape .ensures) (not-false _ (one .if1 .left))
+    ∙ unparsed (a .setting) (r .layout-of .result) (r .layout-of .ensures) (bytesIn (a .info .now)) (h .has-shape .result) (h .has-shape .ensures) (not-false _ (one .if1 .left))
     _ (w .words-of .ensures) (b .byte-of .result) (v .values-of .result) (b .byte-of .ensures) (v .values-of .ensures) (sym (test .may-write .ensures) ∙ not-true _ (c .before .if2 .taken))
 
 returns-3 : tie.Need-returns-3
@@ -86,14 +86,14 @@ returns-3 c =
     let h = one .before in
     let r = h .before in
     let a = r .before .before .args in
-    parsed (a .setting) (r .row-of .result) (r .row-of .ensures) (bytesIn (a .info .now)) (h .has-shape .result) (h .has-shape .ensures) (not-false _ (one .if1 .left))
+    parsed (a .setting) (r .layout-of .result) (r .layout-of .ensures) (bytesIn (a .info .now)) (h .has-shape .result) (h .has-shape .ensures) (not-false _ (one .if1 .left))
     _ (w .words-of .ensures) (b .byte-of .result) (v .values-of .result) (b .byte-of .ensures) (v .values-of .ensures) (sym (test .may-write .ensures) ∙ not-false _ (c .if2 .left))
 
 pub in-request-spec : {M : Type 1} → statement M
 in-request-spec =
     tie.close
     (tie.spec
-    row-of-requires
+    layout-of-requires
     has-shape-requires
     refuse-requires
     returns

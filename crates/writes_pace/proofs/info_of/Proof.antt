@@ -4,23 +4,23 @@ use Prim.Native.Nat.{_≤_}
 use mathlib.Core.Path.{_≡_, ap, _∙_}
 use native.Mathlib.Omega.{arith}
 use lib.ListN.{length}
-use Rattle.rows_pace.specs.Rows.{rowOf, settingOf}
-use Rattle.writes_pace.proofs.Judged.{row-few, info-is}
+use Rattle.commands_pace.specs.Settings.{layoutOf, settingOf}
+use Rattle.writes_pace.proofs.Judged.{layout-few, info-is}
 use borrow.Author.Needs.{needs}
 use Rattle.writes_pace.proofs.info_of.Statement.{statement}
 use Rattle.writes_pace.proofs.info_of.Tie as tie
 
-is-row : (c : tie.After-row-of) → c .row-of .result ≡ rowOf (settingOf (c .before .before .args .v))
-is-row c = c .row-of .ensures ∙ ap rowOf (c .before .parts-of .ensures .0)
+is-layout : (c : tie.After-layout-of) → c .layout-of .result ≡ layoutOf (settingOf (c .before .before .args .v))
+is-layout c = c .layout-of .ensures ∙ ap layoutOf (c .before .parts-of .ensures .0)
 
-abbrev small : (c : tie.After-row-of) → c .row-of .result .amounts ≤ 3
-small c = row-few (c .before .before .args .v) (c .row-of .result) (is-row c)
+abbrev small : (c : tie.After-layout-of) → c .layout-of .result .amounts ≤ 3
+small c = layout-few (c .before .before .args .v) (c .layout-of .result) (is-layout c)
 
 parts-of-requires : tie.Need-parts-of-requires
 parts-of-requires c κs = search needs
 
-row-of-requires : tie.Need-row-of-requires
-row-of-requires c κs = search needs
+layout-of-requires : tie.Need-layout-of-requires
+layout-of-requires c κs = search needs
 
 array-write-bytes : tie.Need-array-write-bytes
 array-write-bytes c = search needs
@@ -73,14 +73,14 @@ add-t20 c = omega (arith, small (c .before .before .before .before .before .befo
 returns : tie.Need-returns
 returns c =
     let r = c .before .before .before .before .before .before in
-    info-is (r .before .before .args .v) (r .row-of .result) (is-row r) (r .before .parts-of .result .amounts) _ (r .before .parts-of .result .delay) (r .before .parts-of .ensures .1 .0) (c .before .put-words .ensures) (r .before .parts-of .ensures .1 .1)
+    info-is (r .before .before .args .v) (r .layout-of .result) (is-layout r) (r .before .parts-of .result .amounts) _ (r .before .parts-of .result .delay) (r .before .parts-of .ensures .1 .0) (c .before .put-words .ensures) (r .before .parts-of .ensures .1 .1)
 
 pub info-of-spec : {M : Type 1} → statement M
 info-of-spec =
     tie.close
     (tie.spec
     parts-of-requires
-    row-of-requires
+    layout-of-requires
     array-write-bytes
     sub-put-words
     part-put-words-start
