@@ -9,8 +9,8 @@ use borrow.Author.Needs.{needs}
 use Rattle.sums.proofs.closes65536.Statement.{statement}
 use Rattle.sums.proofs.closes65536.Tie as tie
 
-sum-low-requires : tie.Need-sum-low-requires
-sum-low-requires c κs = search needs
+sum65536-requires : tie.Need-sum65536-requires
+sum65536-requires c κs = search needs
 
 add-result : tie.Need-add-result
 add-result c = search needs
@@ -18,8 +18,8 @@ add-result c = search needs
 returns : tie.Need-returns
 returns c =
     let a = c .before .before .args in
-    let e : (c .sum-low .result + a .check) % 65536 ≡ (total (a .s .now) + a .check) % 65536 = omega arith in
+    let e : (c .sum65536 .result + a .check) % 65536 ≡ (total (a .s .now) + a .check) % 65536 = omega arith in
     ap (λ (x : ℕ). eqb x 0) e
 
 pub closes65536-spec : {M : Type 1} → statement M
-closes65536-spec = tie.close (tie.spec sum-low-requires add-result returns)
+closes65536-spec = tie.close (tie.spec sum65536-requires add-result returns)

@@ -1,14 +1,14 @@
--- `sums::sum_low` meets its contract. The loop's invariant: the sum so far with what is left is the whole sum, modulo 65,536.
+-- `sums::sum65536` meets its contract. The loop's invariant: the sum so far with what is left is the whole sum, modulo 65,536.
 -- Assumes nothing.
 use Prim.Native.Nat.{_+_, _-_, _%_, _≤_, _<_}
-use mathlib.Core.Path.{_≡_, ap}
+use mathlib.Core.Path.{_≡_}
 use lib.ListN.{length, drop}
-use Rattle.laws.proofs.Walk.{left-next, left-none}
 use Rattle.sums.specs.Sums.{total}
+use Rattle.sums.proofs.Adding.{total-next, total-none}
 use borrow.Author.Needs.{needs}
 use native.Mathlib.Omega.{arith}
-use Rattle.sums.proofs.sum_low.Statement.{statement}
-use Rattle.sums.proofs.sum_low.Tie as tie
+use Rattle.sums.proofs.sum65536.Statement.{statement}
+use Rattle.sums.proofs.sum65536.Tie as tie
 
 abbrev Inv-loop : tie.InvT-loop
 Inv-loop s t₀ i₀ t i = (i ≤ length s) × (t < 4294967296) × ((t + total (drop i s)) % 65536 ≡ total s % 65536)
@@ -35,24 +35,19 @@ loop-less : tie.Need-loop-less Inv-loop μ-loop
 loop-less c = omega arith
 
 loop-again : tie.Need-loop-again Inv-loop μ-loop
-unfolding total
 loop-again c =
     let s = c .before .before .before .before .before .before .args .s .now in
     let l = c .before .before .before .before .loop in
-    let h : l .i < length s = omega arith in
-    let next = ap total (left-next s (l .i) h) in (omega arith, omega arith, omega arith)
+    let next = total-next s (l .i) (omega arith) in (omega arith, omega arith, omega arith)
 
 returns : tie.Need-returns Inv-loop μ-loop
-unfolding total
 returns c =
     let s = c .before .before .before .args .s .now in
     let l = c .before .loop in
-    let h : length s ≤ l .i = omega arith in
-    let none = ap total (left-none s (l .i) h) in
-    omega arith
+    omega (arith, total-none s (l .i) (omega arith))
 
-pub sum-low-spec : {M : Type 1} → statement M
-sum-low-spec =
+pub sum65536-spec : {M : Type 1} → statement M
+sum65536-spec =
     tie.close
     (tie.spec
     Inv-loop
