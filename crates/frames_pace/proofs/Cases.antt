@@ -43,7 +43,7 @@ firstOf starts ends hex fits closed knows =
 abbrev answer : ℕ → Frame → Frame
 answer n w = pick (eqb n 0) w (Refused (refusedWith n))
 
--- so a ladder of refusals goes by the number of the first fault
+-- a ladder of refusals goes by the number of the first fault
 by-number : (a b c d e f : Bool) (w : Frame)
     → pick a (pick b (pick c (pick d (pick e (pick f w (Refused (refusedWith address))) (Refused (refusedWith checksum)))
     (Refused (refusedWith lengths))) (Refused (refusedWith character))) (Refused (refusedWith lastMark))) (Refused (refusedWith firstMark))
@@ -92,7 +92,7 @@ module _ (s : List ℕ) where
         go : (m : ℕ) (w : Frame) → m ≡ 0 → w ≡ answer m w
         go m w k = rw k
 
-    -- a frame is whole
+    -- from its parts, as a writer knows them
     pub whole : getD s 0 0 ≡ 0x7E → getD s (length s - 1) 0 ≡ 0x0D → allHex (innerOf s) ≡ true
         → (n : ℕ) → countOf (wordAt (headOf s) 4) ≡ Is n → n ≡ length s - 18 → closes 65536 (total (coveredOf s)) (checkOf s) ≡ true
         → getD (headOf s) 0 0 ≡ 0x25 → getD (headOf s) 2 0 ≡ 0x46

@@ -45,7 +45,7 @@ pub fn read_frame(s: &[u8]) -> Frame
     if n < 18 {
         return Frame::Refused(refuse(refusals::SHORT));
     }
-    // Past the length of the input, no test rests on another.
+    // Of 18 characters or more every test can be made, whatever the others say.
     let head = &s[1..13];
     let starts = s[0] == FIRST;
     let ends = s[n - 1] == LAST;
@@ -65,7 +65,7 @@ pub fn read_frame(s: &[u8]) -> Frame
     }
 }
 
-// The first that is met, in the order of 01; 0 for none.
+// The first fault that is met, in the order of 01; 0 for none.
 fn first_fault(starts: bool, ends: bool, hex: bool, fits: bool, closes: bool, known: bool) -> u8
     ensures { λ r. ⌜ r ≡ pick starts (pick ends (pick hex (pick fits (pick closes (pick known 0 address) checksum) lengths) character) lastMark) firstMark ⌝ }
 {
@@ -90,7 +90,7 @@ fn first_fault(starts: bool, ends: bool, hex: bool, fits: bool, closes: bool, kn
     0
 }
 
-// Whether LENGTH, after the four bytes at the header's front, is right and counts so many characters.
+// Whether LENGTH, after the header's first four bytes, has its right digit and counts so many characters.
 fn has_count(head: &[u8], len: usize) -> bool
     ensures { λ r. ⌜ r ≡ counts (countOf (wordAt (bytesIn (now (head .entry))) 4)) len ⌝ }
 {
@@ -100,7 +100,7 @@ fn has_count(head: &[u8], len: usize) -> bool
     count as usize == len
 }
 
-// Whether version and CID1 are the ones that there are.
+// Whether the version is 25 and CID1 46.
 fn is_known(head: &[u8]) -> bool
     ensures { λ r. ⌜ r ≡ (eqb (getD (bytesIn (now (head .entry))) 0 0) 0x25 && eqb (getD (bytesIn (now (head .entry))) 2 0) 0x46) ⌝ }
 {

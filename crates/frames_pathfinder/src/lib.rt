@@ -34,7 +34,7 @@ pub fn read_frame(s: &[u8]) -> Frame
     if s.len() < 6 {
         return refused(refusals::SHORT);
     }
-    // Places are counted from the input's end, so that no test rests on another; the refusals are a ladder in the order of 01.
+    // Places are counted from the input's end, so that every test can be made, whatever the others say; the refusals are a ladder in the order of 01.
     let last = s.len() - 1;
     let starts = s[0] == 0xFE;
     let fits = s.len() == wide(s[1]) + 5;

@@ -49,7 +49,7 @@ pub fn read_frame(s: &[u8]) -> Frame
     if s.len() < 6 {
         return refused(refusals::SHORT);
     }
-    // No test rests on another; the refusals are a ladder in the order of 01.
+    // Of 6 bytes or more every test can be made, whatever the others say; the refusals are a ladder in the order of 01.
     let starts = s[0] == 0x7F;
     let fits = s.len() == wide(s[3]);
     let closes = sum256(s) == 0;
@@ -73,7 +73,7 @@ pub fn read_frame(s: &[u8]) -> Frame
     }
 }
 
-// Whether a frame with these bytes is ours: address 10, version 02.
+// Whether the address is 10 and the version 02.
 fn is_addressed(address: u8, version: u8) -> bool
     ensures { λ r. ⌜ r ≡ (eqb address 0x10 && eqb version 0x02) ⌝ }
 {
