@@ -9,11 +9,14 @@ use refusals::Refusal;
 use refusals::refuse;
 use sums::closes65536;
 ghost use mathlib.Core.Path.{_≡_};
-ghost use mathlib.Core.Bool.{true};
-ghost use Prim.Native.Nat.{_-_, _≤_};
-ghost use lib.ListN.{length, getD};
-ghost use Rattle.characters_pace.specs.Characters.{allHex};
-ghost use Rattle.frames_pace.specs.Frame.{frameOf, innerOf};
+ghost use mathlib.Core.Bool.{_&&_};
+ghost use lib.Dec.{eqb};
+ghost use lib.ListN.{getD};
+ghost use Rattle.laws.specs.Choice.{pick};
+ghost use Rattle.refusals.specs.Refused.{firstMark, lastMark, lengths, checksum, address, character};
+ghost use Rattle.lengths_pace.specs.Lengths.{countOf};
+ghost use Rattle.characters_pace.specs.Characters.{bytesIn, wordAt};
+ghost use Rattle.frames_pace.specs.Frame.{counts, frameOf};
 
 pub const VERSION: u8 = 0x25;
 
@@ -42,42 +45,17 @@ pub fn read_frame(s: &[u8]) -> Frame
     if n < 18 {
         return Frame::Refused(refuse(refusals::SHORT));
     }
-    if s[0] != FIRST {
-        return Frame::Refused(refuse(refusals::FIRST_MARK));
-    }
-    if s[n - 1] != LAST {
-        return Frame::Refused(refuse(refusals::LAST_MARK));
-    }
-    if !all_hex(&s[1..n - 1]) {
-        return Frame::Refused(refuse(refusals::CHARACTER));
-    }
-    counted_frame(s)
-}
-
-// LENGTH of characters between right marks, then the rest.
-fn counted_frame(s: &[u8]) -> Frame
-    requires { ⌜ 18 ≤ length (now s) ⌝ }
-    requires { ⌜ getD (now s) 0 0 ≡ 0x7E ⌝ }
-    requires { ⌜ getD (now s) (length (now s) - 1) 0 ≡ 0x0D ⌝ }
-    requires { ⌜ allHex (innerOf (now s)) ≡ true ⌝ }
-    ensures { λ r. ⌜ r ≡ frameOf (now (s .entry)) ⌝ }
-{
-    let n = s.len();
+    // Of 18 characters or more every test can be made, whatever the others say.
     let head = &s[1..13];
-    let Length::Is(count) = length_count(word_of(head, 4)) else {
-        return Frame::Refused(refuse(refusals::LENGTH));
-    };
-    if count as usize != n - 18 {
-        return Frame::Refused(refuse(refusals::LENGTH));
-    }
-    if !closes65536(&s[1..n - 5], word_of(&s[n - 5..n - 1], 0)) {
-        return Frame::Refused(refuse(refusals::CHECKSUM));
-    }
-    if byte_of(head, 0) != VERSION {
-        return Frame::Refused(refuse(refusals::ADDRESS));
-    }
-    if byte_of(head, 2) != CID1 {
-        return Frame::Refused(refuse(refusals::ADDRESS));
+    let starts = s[0] == FIRST;
+    let ends = s[n - 1] == LAST;
+    let hex = all_hex(&s[1..n - 1]);
+    let fits = has_count(head, n - 18);
+    let closes = closes65536(&s[1..n - 5], word_of(&s[n - 5..n - 1], 0));
+    let known = is_known(head);
+    let fault = first_fault(starts, ends, hex, fits, closes, known);
+    if fault != 0 {
+        return Frame::Refused(refuse(fault));
     }
     Frame::Whole {
         address: byte_of(head, 1),
@@ -85,4 +63,46 @@ fn counted_frame(s: &[u8]) -> Frame
         start: 13,
         len: n - 18,
     }
+}
+
+// The first fault that is met, in the order of 01; 0 for none.
+fn first_fault(starts: bool, ends: bool, hex: bool, fits: bool, closes: bool, known: bool) -> u8
+    ensures { λ r. ⌜ r ≡ pick starts (pick ends (pick hex (pick fits (pick closes (pick known 0 address) checksum) lengths) character) lastMark) firstMark ⌝ }
+{
+    if !starts {
+        return refusals::FIRST_MARK;
+    }
+    if !ends {
+        return refusals::LAST_MARK;
+    }
+    if !hex {
+        return refusals::CHARACTER;
+    }
+    if !fits {
+        return refusals::LENGTH;
+    }
+    if !closes {
+        return refusals::CHECKSUM;
+    }
+    if !known {
+        return refusals::ADDRESS;
+    }
+    0
+}
+
+// Whether LENGTH, after the header's first four bytes, has its right digit and counts so many characters.
+fn has_count(head: &[u8], len: usize) -> bool
+    ensures { λ r. ⌜ r ≡ counts (countOf (wordAt (bytesIn (now (head .entry))) 4)) len ⌝ }
+{
+    let Length::Is(count) = length_count(word_of(head, 4)) else {
+        return false;
+    };
+    count as usize == len
+}
+
+// Whether the version is 25 and CID1 46.
+fn is_known(head: &[u8]) -> bool
+    ensures { λ r. ⌜ r ≡ (eqb (getD (bytesIn (now (head .entry))) 0 0) 0x25 && eqb (getD (bytesIn (now (head .entry))) 2 0) 0x46) ⌝ }
+{
+    byte_of(head, 0) == VERSION && byte_of(head, 2) == CID1
 }

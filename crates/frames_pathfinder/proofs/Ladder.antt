@@ -1,10 +1,11 @@
--- The ways out of `frameOf`, each from the facts that the reader has there, and what a whole frame says of its bytes.
+-- The ways out of `frameOf`, each from the tests that the reader has made there, and what a whole frame says of its bytes.
 -- Each way rewrites the ladder with its tests; the inversion goes down the ladder past each refusal. Assumes nothing.
 use mathlib.Core.Path.{_≡_}
+use mathlib.Core.Bool.{Bool, true, false}
 use mathlib.Core.List.{List, [], _∷_}
 use Prim.Native.Nat.{ℕ, _+_, _-_, _<_, _≤_}
 use native.Mathlib.Omega.{arith}
-use borrow.Author.Tests.{lt-ltb, le-ltb, eq-eqb, ne-eqb, ltb-false, eqb-true}
+use borrow.Author.Tests.{lt-ltb, le-ltb, eq-eqb, ltb-false, eqb-true}
 use lib.Dec.{ltb, eqb}
 use lib.ListN.{length, getD, take, drop}
 use Rattle.laws.proofs.Ladders.{past, into}
@@ -20,37 +21,68 @@ pub too-short : (s : List ℕ) → length s < 6 → Refused (refusedWith short) 
 unfolding frameOf
 too-short s h = simp (lt-ltb _ _ h)
 
+-- ---- by the reader's tests, whose places are counted from the input's end
+
+-- the test of the checksum
+abbrev pub closes : List ℕ → Bool
+closes s =
+    eqb (crcOf (take (length s - 1 - 2 - 1) (drop 1 s))) (numberOf HighFirst (getD s (length s - 1 - 2) 0 ∷ getD s (length s - 1 - 1) 0 ∷ []))
+
 module _ (s : List ℕ) (long : 6 ≤ length s) where
-  pub wrong-start : (getD s 0 0 ≡ 0xFE → ⊥) → Refused (refusedWith firstMark) ≡ frameOf s
+  pub wrong-start : eqb (getD s 0 0) 0xFE ≡ false → Refused (refusedWith firstMark) ≡ frameOf s
   unfolding frameOf
-  wrong-start h = simp (le-ltb _ _ long, ne-eqb _ _ h)
+  wrong-start h = simp (le-ltb _ _ long, h)
 
-  -- n is the declared length, as the reader holds it
-  module _ (mark : getD s 0 0 ≡ 0xFE) (n : ℕ) (e : n ≡ declared s) where
-    pub wrong-length : (length s ≡ n + 5 → ⊥) → Refused (refusedWith lengths) ≡ frameOf s
+  pub wrong-length : eqb (getD s 0 0) 0xFE ≡ true → eqb (length s) (declared s + 5) ≡ false → Refused (refusedWith lengths) ≡ frameOf s
+  unfolding frameOf
+  wrong-length starts h = simp (le-ltb _ _ long, starts, h)
+
+-- what the reader knows of an input that starts with the mark and has the length that it declares
+pub record Fitting (s : List ℕ) : Type 0 where
+  pub long : 6 ≤ length s
+  pub starts : eqb (getD s 0 0) 0xFE ≡ true
+  pub fits : eqb (length s) (declared s + 5) ≡ true
+
+module _ (s : List ℕ) (k : Fitting s) where
+  size : length s ≡ declared s + 5
+  size = eqb-true _ _ (k .fits)
+
+  -- of such an input the places are those of the definition
+  last : length s - 1 ≡ declared s + 4
+  last = omega (arith, size)
+
+  sum : eqb (crcOf (covered s)) (given s) ≡ closes s
+  sum =
+      let a : length s - 1 - 2 - 1 ≡ declared s + 1 = omega (arith, size) in
+      let b : length s - 1 - 2 ≡ declared s + 2 = omega (arith, size) in
+      let d : length s - 1 - 1 ≡ declared s + 3 = omega (arith, size) in
+      rw (a, b, d)
+
+  pub wrong-end : eqb (getD s (length s - 1) 0) 0xFD ≡ false → Refused (refusedWith lastMark) ≡ frameOf s
+  unfolding frameOf
+  wrong-end h = simp (le-ltb _ _ (k .long), k .starts, k .fits, rw last at h)
+
+  module _ (ends : eqb (getD s (length s - 1) 0) 0xFD ≡ true) where
+    pub wrong-sum : closes s ≡ false → Refused (refusedWith checksum) ≡ frameOf s
     unfolding frameOf
-    wrong-length h = simp (le-ltb _ _ long, eq-eqb _ _ mark, ← e, ne-eqb _ _ h)
+    wrong-sum h = simp (le-ltb _ _ (k .long), k .starts, k .fits, rw last at ends, sum, h)
 
-    module _ (fits : length s ≡ n + 5) where
-      pub wrong-end : (getD s (n + 4) 0 ≡ 0xFD → ⊥) → Refused (refusedWith lastMark) ≡ frameOf s
-      unfolding frameOf
-      wrong-end h = simp (le-ltb _ _ long, eq-eqb _ _ mark, ← e, eq-eqb _ _ fits, ne-eqb _ _ h)
+    pub taken : closes s ≡ true → Whole (getD s 2 0) 3 (length s - 1 - 5) ≡ frameOf s
+    unfolding frameOf
+    taken h =
+        let len : length s - 1 - 5 ≡ declared s - 1 = omega (arith, size) in
+        simp (len, le-ltb _ _ (k .long), k .starts, k .fits, rw last at ends, sum, h)
 
-      module _ (end : getD s (n + 4) 0 ≡ 0xFD) (sum told : ℕ)
-          (sums : sum ≡ crcOf (take (n + 2 - 1) (drop 1 s))) (tells : told ≡ numberOf HighFirst (getD s (n + 2) 0 ∷ getD s (n + 3) 0 ∷ [])) where
-        -- the sum that was computed is that of the definition
-        same : crcOf (take (n + 1) (drop 1 s)) ≡ sum
-        same = let k : n + 2 - 1 ≡ n + 1 = omega arith in cc
+-- ---- what is a whole frame
 
-        pub wrong-sum : (sum ≡ told → ⊥) → Refused (refusedWith checksum) ≡ frameOf s
-        unfolding frameOf
-        wrong-sum h =
-            simp (le-ltb _ _ long, eq-eqb _ _ mark, ← e, eq-eqb _ _ fits, eq-eqb _ _ end, same, ← tells, ne-eqb _ _ h)
-
-        pub whole : sum ≡ told → Whole (getD s 2 0) 3 (n - 1) ≡ frameOf s
-        unfolding frameOf
-        whole h =
-            simp (le-ltb _ _ long, eq-eqb _ _ mark, ← e, eq-eqb _ _ fits, eq-eqb _ _ end, same, ← tells, eq-eqb _ _ h)
+pub whole : (s : List ℕ) → 6 ≤ length s → getD s 0 0 ≡ 0xFE → (n : ℕ) → n ≡ declared s → length s ≡ n + 5 → getD s (n + 4) 0 ≡ 0xFD
+    → (sum told : ℕ) → sum ≡ crcOf (take (n + 2 - 1) (drop 1 s)) → told ≡ numberOf HighFirst (getD s (n + 2) 0 ∷ getD s (n + 3) 0 ∷ [])
+    → sum ≡ told → Whole (getD s 2 0) 3 (n - 1) ≡ frameOf s
+unfolding frameOf
+whole s long mark n e fits end sum told sums tells h =
+    let k : n + 2 - 1 ≡ n + 1 = omega arith in
+    let same : crcOf (take (n + 1) (drop 1 s)) ≡ sum = cc in
+    simp (le-ltb _ _ long, eq-eqb _ _ mark, ← e, eq-eqb _ _ fits, eq-eqb _ _ end, same, ← tells, eq-eqb _ _ h)
 
 -- ---- what a whole frame says of its bytes
 

@@ -7,7 +7,12 @@ use numbers::number16;
 use refusals::Refusal;
 use refusals::refuse;
 ghost use mathlib.Core.Path.{_≡_};
+ghost use mathlib.Core.List.{[], _∷_};
 ghost use Prim.Native.Nat.{_<_};
+ghost use lib.Dec.{eqb};
+ghost use Rattle.checks.specs.Crc.{crcOf};
+ghost use Rattle.numbers.specs.declared.Order.the-variants.{HighFirst};
+ghost use Rattle.numbers.specs.Bytes.{numberOf};
 ghost use Rattle.refusals.specs.Refused.{refusedWith};
 ghost use Rattle.frames_pathfinder.specs.Reading.{frameOf};
 
@@ -29,26 +34,37 @@ pub fn read_frame(s: &[u8]) -> Frame
     if s.len() < 6 {
         return refused(refusals::SHORT);
     }
-    if s[0] != 0xFE {
+    // Places are counted from the input's end, so that every test can be made, whatever the others say; the refusals are a ladder in the order of 01.
+    let last = s.len() - 1;
+    let starts = s[0] == 0xFE;
+    let fits = s.len() == wide(s[1]) + 5;
+    let ends = s[last] == 0xFD;
+    if !starts {
         return refused(refusals::FIRST_MARK);
     }
-    let n = wide(s[1]);
-    if s.len() != n + 5 {
+    if !fits {
         return refused(refusals::LENGTH);
     }
-    if s[n + 4] != 0xFD {
+    // Only now, since the checksum is dear and the input may be long.
+    let closes = has_sum(&s[1..last - 2], s[last - 2], s[last - 1]);
+    if !ends {
         return refused(refusals::LAST_MARK);
     }
-    let sum = crc16(&s[1..n + 2]);
-    let given = number16(Order::HighFirst, s[n + 2], s[n + 3]);
-    if sum != given {
+    if !closes {
         return refused(refusals::CHECKSUM);
     }
     Frame::Whole {
         opcode: s[2],
         start: 3,
-        len: n - 1,
+        len: last - 5,
     }
+}
+
+// Whether the checksum of these bytes is the one given.
+fn has_sum(covered: &[u8], high: u8, low: u8) -> bool
+    ensures { λ r. ⌜ r ≡ eqb (crcOf (now (covered .entry))) (numberOf HighFirst (high ∷ low ∷ [])) ⌝ }
+{
+    crc16(covered) == number16(Order::HighFirst, high, low)
 }
 
 fn refused(number: u8) -> Frame

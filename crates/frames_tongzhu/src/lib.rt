@@ -4,6 +4,8 @@ use refusals::Refusal;
 use refusals::refuse;
 use sums::sum256;
 ghost use mathlib.Core.Path.{_≡_};
+ghost use mathlib.Core.Bool.{_&&_};
+ghost use lib.Dec.{eqb};
 ghost use Rattle.refusals.specs.Refused.{refusedWith};
 ghost use Rattle.frames_tongzhu.specs.Functions.{kindOf};
 ghost use Rattle.frames_tongzhu.specs.Reading.{frameOf};
@@ -47,28 +49,35 @@ pub fn read_frame(s: &[u8]) -> Frame
     if s.len() < 6 {
         return refused(refusals::SHORT);
     }
-    if s[0] != 0x7F {
+    // Of 6 bytes or more every test can be made, whatever the others say; the refusals are a ladder in the order of 01.
+    let starts = s[0] == 0x7F;
+    let fits = s.len() == wide(s[3]);
+    let closes = sum256(s) == 0;
+    let addressed = is_addressed(s[1], s[2]);
+    if !starts {
         return refused(refusals::FIRST_MARK);
     }
-    let declared = wide(s[3]);
-    if s.len() != declared {
+    if !fits {
         return refused(refusals::LENGTH);
     }
-    let last = s.len() - 1;
-    if sum256(s) != 0 {
+    if !closes {
         return refused(refusals::CHECKSUM);
     }
-    if s[1] != 0x10 {
-        return refused(refusals::ADDRESS);
-    }
-    if s[2] != 0x02 {
+    if !addressed {
         return refused(refusals::ADDRESS);
     }
     Frame::Whole {
         function: s[4],
         start: 5,
-        len: last - 5,
+        len: s.len() - 6,
     }
+}
+
+// Whether the address is 10 and the version 02.
+fn is_addressed(address: u8, version: u8) -> bool
+    ensures { λ r. ⌜ r ≡ (eqb address 0x10 && eqb version 0x02) ⌝ }
+{
+    address == 0x10 && version == 0x02
 }
 
 fn refused(number: u8) -> Frame

@@ -1,19 +1,33 @@
--- `frames_pace::read_frame` meets its contract: each way out is the case of `frameOf` that its tests name, the last one by `counted_frame`.
+-- `frames_pace::read_frame` meets its contract: the input is too short, or its first fault is the definition's, since each test is.
 -- Assumes nothing.
-use mathlib.Core.Path.{_≡_, sym, ap, _∙_}
-use borrow.Author.Tests.{not-true, not-false}
-use Rattle.frames_pace.specs.declared.Frame.the-variants.{Refused}
-use Rattle.characters_pace.specs.Characters.{allHex}
-use Rattle.frames_pace.specs.Frame.{innerOf}
-use Rattle.frames_pace.proofs.Cases.{inner-lent, too-short, no-first-mark, no-last-mark, no-digit}
+use mathlib.Core.Path.{_≡_, sym, ap, ap₂, _∙_}
+use mathlib.Core.List.{List}
+use Prim.Native.Nat.{ℕ, _-_, _≤_}
+use lib.ListN.{length}
 use native.Mathlib.Omega.{arith}
+use Rattle.frames_pace.specs.declared.Frame.the-variants.{Whole, Refused}
+use Rattle.frames_pace.proofs.Cases.{fault, fault-lent, too-short, faulty, faultless}
 use borrow.Author.Needs.{needs}
 use Rattle.frames_pace.proofs.read_frame.Statement.{statement}
 use Rattle.frames_pace.proofs.read_frame.Tie as tie
 
--- the test of the characters, as the definition has it
-tested : (c : tie.After-all-hex) → allHex (innerOf (c .before .before .before .before .before .before .before .before .args .s .now)) ≡ c .all-hex .result
-tested c = let s = c .before .before .before .before .before .before .before .before .args .s .now in sym (c .all-hex .ensures ∙ ap allHex (inner-lent s))
+-- where the input was found long enough, the input, and that it is
+abbrev begun : tie.After-first-fault → tie.Else1
+begun c = c .before .before .before .before .before .before .before .before .before .before .before .before
+
+abbrev bytes : tie.After-first-fault → List ℕ
+bytes c = begun c .before .before .args .s .now
+
+long : (c : tie.After-first-fault) → 18 ≤ length (bytes c)
+long c = begun c .if1 .left
+
+-- the fault that the reader finds is the definition's
+found : (c : tie.After-first-fault) → c .first-fault .result ≡ fault (bytes c)
+found c =
+    let summed = c .before .before in
+    let count = summed .before .before .before .before in
+    fault-lent (bytes c) _ _ _ _ _ _ (long c) (c .first-fault .ensures) (count .before .all-hex .ensures) (count .has-count .ensures)
+    (summed .before .word-of .ensures) (summed .closes65536 .ensures) (c .before .is-known .ensures)
 
 refuse-requires : tie.Need-refuse-requires
 refuse-requires c κs = tt
@@ -21,26 +35,23 @@ refuse-requires c κs = tt
 returns : tie.Need-returns
 returns c = ap Refused (c .refuse .ensures) ∙ too-short _ (search needs)
 
-shared-slice-read-if2 : tie.Need-shared-slice-read-if2
-shared-slice-read-if2 c = omega arith
+sub-head : tie.Need-sub-head
+sub-head c = omega arith
 
-refuse-requires-2 : tie.Need-refuse-requires-2
-refuse-requires-2 c κs = tt
+part-head-start : tie.Need-part-head-start
+part-head-start c = omega arith
 
-returns-2 : tie.Need-returns-2
-returns-2 c = ap Refused (c .refuse2 .ensures) ∙ no-first-mark _ (search needs) (search needs)
+part-head-end : tie.Need-part-head-end
+part-head-end c = omega arith
 
-sub-if3 : tie.Need-sub-if3
-sub-if3 c = omega arith
+shared-slice-read-starts : tie.Need-shared-slice-read-starts
+shared-slice-read-starts c = omega arith
 
-shared-slice-read-if3 : tie.Need-shared-slice-read-if3
-shared-slice-read-if3 c = omega arith
+sub-ends : tie.Need-sub-ends
+sub-ends c = omega arith
 
-refuse-requires-3 : tie.Need-refuse-requires-3
-refuse-requires-3 c κs = tt
-
-returns-3 : tie.Need-returns-3
-returns-3 c = ap Refused (c .refuse3 .ensures) ∙ no-last-mark _ (search needs) (search needs) (search needs)
+shared-slice-read-ends : tie.Need-shared-slice-read-ends
+shared-slice-read-ends c = omega arith
 
 sub-all-hex : tie.Need-sub-all-hex
 sub-all-hex c = omega arith
@@ -57,17 +68,66 @@ part-all-hex-end c = omega arith
 all-hex-requires : tie.Need-all-hex-requires
 all-hex-requires c κs = tt
 
-refuse-requires-4 : tie.Need-refuse-requires-4
-refuse-requires-4 c κs = tt
+has-count-requires : tie.Need-has-count-requires
+has-count-requires c κs = tt
 
-returns-4 : tie.Need-returns-4
-returns-4 c = ap Refused (c .refuse4 .ensures) ∙ no-digit _ (search needs) (search needs) (search needs) (tested (c .before .before) ∙ not-true _ (c .before .if4 .taken))
+sub-closes65536 : tie.Need-sub-closes65536
+sub-closes65536 c = omega arith
 
-counted-frame-requires : tie.Need-counted-frame-requires
-counted-frame-requires c κs = (search needs, (search needs, (search needs, tested (c .before) ∙ not-false _ (c .if4 .left))))
+sub-closes65536-2 : tie.Need-sub-closes65536-2
+sub-closes65536-2 c = omega arith
 
-returns-5 : tie.Need-returns-5
-returns-5 c = search needs
+part-closes65536-start : tie.Need-part-closes65536-start
+part-closes65536-start c = omega arith
+
+part-closes65536-end : tie.Need-part-closes65536-end
+part-closes65536-end c = omega arith
+
+sub-word-of : tie.Need-sub-word-of
+sub-word-of c = omega arith
+
+sub-word-of-2 : tie.Need-sub-word-of-2
+sub-word-of-2 c = omega arith
+
+sub-word-of-3 : tie.Need-sub-word-of-3
+sub-word-of-3 c = omega arith
+
+part-word-of-start : tie.Need-part-word-of-start
+part-word-of-start c = omega arith
+
+part-word-of-end : tie.Need-part-word-of-end
+part-word-of-end c = omega arith
+
+word-of-requires : tie.Need-word-of-requires
+word-of-requires c κs = tt
+
+closes65536-requires : tie.Need-closes65536-requires
+closes65536-requires c κs = tt
+
+is-known-requires : tie.Need-is-known-requires
+is-known-requires c κs = tt
+
+first-fault-requires : tie.Need-first-fault-requires
+first-fault-requires c κs = tt
+
+refuse-requires-2 : tie.Need-refuse-requires-2
+refuse-requires-2 c κs = tt
+
+returns-2 : tie.Need-returns-2
+returns-2 c = ap Refused (c .refuse2 .ensures) ∙ faulty _ (long (c .before .before)) _ (found (c .before .before)) (c .before .if2 .taken)
+
+byte-of-requires : tie.Need-byte-of-requires
+byte-of-requires c κs = tt
+
+byte-of-requires-2 : tie.Need-byte-of-requires-2
+byte-of-requires-2 c κs = tt
+
+returns-3 : tie.Need-returns-3
+returns-3 c =
+    let clear = c .before .before in
+    let at = clear .before in
+    ap₂ (λ (a b : ℕ). Whole a b 13 (length (bytes at) - 18)) (c .before .byte-of .ensures) (c .byte-of2 .ensures)
+    ∙ faultless _ (long at) (sym (found at) ∙ clear .if2 .left)
 
 pub read-frame-spec : {M : Type 1} → statement M
 read-frame-spec =
@@ -75,19 +135,33 @@ read-frame-spec =
     (tie.spec
     refuse-requires
     returns
-    shared-slice-read-if2
-    refuse-requires-2
-    returns-2
-    sub-if3
-    shared-slice-read-if3
-    refuse-requires-3
-    returns-3
+    sub-head
+    part-head-start
+    part-head-end
+    shared-slice-read-starts
+    sub-ends
+    shared-slice-read-ends
     sub-all-hex
     sub-all-hex-2
     part-all-hex-start
     part-all-hex-end
     all-hex-requires
-    refuse-requires-4
-    returns-4
-    counted-frame-requires
-    returns-5)
+    has-count-requires
+    sub-closes65536
+    sub-closes65536-2
+    part-closes65536-start
+    part-closes65536-end
+    sub-word-of
+    sub-word-of-2
+    sub-word-of-3
+    part-word-of-start
+    part-word-of-end
+    word-of-requires
+    closes65536-requires
+    is-known-requires
+    first-fault-requires
+    refuse-requires-2
+    returns-2
+    byte-of-requires
+    byte-of-requires-2
+    returns-3)
