@@ -51,7 +51,8 @@ pub fn read_record(s: &[u8]) -> Reading
     }
 }
 
-// Whether the bytes are a record, or why they are none. Who wants its parts one by one reads them after it.
+// Whether the bytes are a record, or why they are none. Who wants its parts one by one reads them after it. All tests of 58 bytes are made
+// before the first of them refuses: their order is that of the refusals alone.
 pub fn judge(s: &[u8]) -> Judged
     ensures { λ r. ⌜ r ≡ judgedOf (now (s .entry)) ⌝ }
 {
@@ -59,13 +60,16 @@ pub fn judge(s: &[u8]) -> Judged
         return Judged::Refused(refuse(refusals::SHORT));
     }
     let sum = front_sum(s);
-    if 58 < s.len() {
+    let no_more = s.len() <= 58;
+    let summed = sum == s[57];
+    let ranged = in_range(s);
+    if !no_more {
         return Judged::Refused(refuse(refusals::LENGTH));
     }
-    if sum != s[57] {
+    if !summed {
         return Judged::Refused(refuse(refusals::CHECKSUM));
     }
-    if !in_range(s) {
+    if !ranged {
         return Judged::Refused(refuse(refusals::RANGE));
     }
     Judged::Sound
