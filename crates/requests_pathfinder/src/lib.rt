@@ -49,8 +49,13 @@ pub fn write_set(register: u8, value: i32, out: &mut [u8]) -> Written
     ensures room { λ r. ⌜ now (out .exit) ≡ roomAfter r (frameFor (Request.Write register value)) (now (out .entry)) ⌝ }
 {
     let fault = fault_of_write(register, value);
-    if fault != 0 {
+    let sound = fault == 0;
+    let roomy = 11 <= out.len();
+    if !sound {
         return not_written(fault);
+    }
+    if !roomy {
+        return not_written(refusals::ROOM);
     }
     set_frame(register, value, out)
 }

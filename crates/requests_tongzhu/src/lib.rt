@@ -48,8 +48,13 @@ fn write_time(t: Time, out: &mut [u8]) -> Written
     ensures answer { λ r. ⌜ r ≡ sentAs (Request.SetTime t) (length (now (out .entry))) ⌝ }
     ensures room { λ r. ⌜ now (out .exit) ≡ roomAfter r (frameFor (Request.SetTime t)) (now (out .entry)) ⌝ }
 {
-    if !is_real(t) {
+    let real = is_real(t);
+    let roomy = 12 <= out.len();
+    if !real {
         return Written::Refused(refuse(refusals::RANGE));
+    }
+    if !roomy {
+        return Written::Refused(refuse(refusals::ROOM));
     }
     time_frame(t, out)
 }
