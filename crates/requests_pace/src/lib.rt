@@ -85,6 +85,7 @@ fn write_ask(address: u8, command: u8, out: &mut [u8]) -> Written
     }
 }
 
+// `write_frame` would refuse too little room as well; it is asked for here so that the order of the refusals stands in one place.
 fn write_values(address: u8, values: Values, out: &mut [u8]) -> Written
     ensures answer { λ r. ⌜ r ≡ sentAs (Request.Set address values) (length (now (out .entry))) ⌝ }
     ensures room { λ r. ⌜ now (out .exit) ≡ roomAfter r (frameFor (Request.Set address values)) (now (out .entry)) ⌝ }
