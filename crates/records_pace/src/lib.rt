@@ -76,15 +76,19 @@ fn answered(address: u8, command: Command, code: u8, info: &[u8]) -> Reply
     ensures { λ r. ⌜ r ≡ answeredOf address command code (now (info .entry)) ⌝ }
 {
     let listed = is_listed(command);
+    let working = code == 0;
     let even = info.len() % 2 == 0;
+    let unlisted = Answer::Refused(refuse(refusals::REQUEST));
+    let failed = Answer::DeviceFailure(code);
+    let odd = Answer::Refused(refuse(refusals::SHAPE));
     if !listed {
-        return refused(refusals::REQUEST);
+        return plain(unlisted);
     }
-    if code != 0 {
-        return plain(Answer::DeviceFailure(code));
+    if !working {
+        return plain(failed);
     }
     if !even {
-        return refused(refusals::SHAPE);
+        return plain(odd);
     }
     payload(address, command, info)
 }

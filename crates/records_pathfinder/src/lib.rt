@@ -12,6 +12,7 @@ use words_pathfinder::read_words;
 ghost use mathlib.Core.Path.{_≡_};
 ghost use mathlib.Core.List.{_++_};
 ghost use Prim.Native.Nat.{_*_, _≤_};
+ghost use lib.Dec.{eqb};
 ghost use lib.ListN.{length, drop};
 ghost use Rattle.refusals.specs.Refused.{refusedWith};
 ghost use Rattle.words_pathfinder.specs.Words.{words};
@@ -103,16 +104,25 @@ fn judge_shape(shape: Shape, len: usize, words: usize, bytes: usize) -> Reply
 fn judge_words(n: usize, len: usize, room: usize) -> Reply
     ensures { λ r. ⌜ r ≡ wordsJudged n len room ⌝ }
 {
-    if len % 4 != 0 {
+    let sized = is_sized(n, len);
+    let roomy = n <= room;
+    if !sized {
         return refused(refusals::SHAPE);
     }
-    if len / 4 != n {
-        return refused(refusals::SHAPE);
-    }
-    if room < n {
+    if !roomy {
         return refused(refusals::ROOM);
     }
     Reply::Words(n)
+}
+
+// Whether data of so many bytes are n words.
+fn is_sized(n: usize, len: usize) -> bool
+    ensures { λ r. ⌜ r ≡ eqb len (4 * n) ⌝ }
+{
+    if len % 4 != 0 {
+        return false;
+    }
+    len / 4 == n
 }
 
 // The words of the data go to the front of the row.

@@ -1,21 +1,24 @@
--- The ways out of `answerTo`, and of an answer whose payload must have a certain size, each from the facts that the code has there.
+-- `answerTo` by what a frame is to the function asked; the ways out of an answer whose payload must have a certain size, each from the facts
+-- that the code has there.
 -- Assumes nothing.
-use mathlib.Core.Path.{_≡_, refl, sym, ap, _∙_}
+use mathlib.Core.Path.{_≡_, refl, ap, _∙_}
+use mathlib.Core.Bool.{Bool, true, false, not}
 use mathlib.Core.Logic.{⊎-elim}
 use mathlib.Core.List.{List, [], _∷_}
 use Prim.Native.Nat.{ℕ, _+_, _-_}
 use native.Mathlib.Omega.{arith}
 use borrow.Author.Tests.{eq-eqb, ne-eqb}
+use lib.Dec.{eqb}
 use lib.IntN.{ℤ}
 use lib.ListN.{length, getD, take, drop}
 use types.Run.{OneOf}
 use denote.Enum.Declared.{tagOf}
+use Rattle.laws.specs.Choice.{pick}
 use Rattle.refusals.specs.declared.Refusal.{Refusal}
 use Rattle.refusals.specs.Refused.{refusedWith, request, shape, range}
 use Rattle.frames_tongzhu.specs.declared.Kind.{Kind}
 use Rattle.frames_tongzhu.specs.declared.Kind.the-variants.{Reads, Sets, Unlisted}
 use Rattle.frames_tongzhu.specs.Functions.{kindOf}
-use Rattle.frames_tongzhu.proofs.Kind.{the-type}
 use Rattle.frames_tongzhu.specs.declared.Frame.the-variants.{Whole, Refused as NoFrame}
 use Rattle.frames_tongzhu.specs.Reading.{frameOf}
 use Rattle.frames_tongzhu.proofs.Ladder.{payload-part}
@@ -23,10 +26,12 @@ use Rattle.monitor3_tongzhu.specs.declared.Status.{Status}
 use Rattle.monitor3_tongzhu.specs.Layout.{noLists}
 use Rattle.monitor3_tongzhu.specs.Values.{numberAt, currentAt, temperatureAt, statusAt}
 use Rattle.records_tongzhu.specs.declared.Monitor2.{Monitor2}
+use Rattle.records_tongzhu.specs.declared.Sort.{Sort}
+use Rattle.records_tongzhu.specs.declared.Sort.the-variants.{Asked, Error, Other}
 use Rattle.records_tongzhu.specs.declared.Answer.{Answer}
 use Rattle.records_tongzhu.specs.declared.Answer.the-variants as is
 use Rattle.records_tongzhu.proofs.Answer.{the-type as answers}
-use Rattle.records_tongzhu.specs.Replies.{refusedAs, monitor2Of, sized, doneOf, payloadOf, listedAnswer, byKind, answerTo, listsBeside, withLists, ofFrame, replyOf}
+use Rattle.records_tongzhu.specs.Replies.{refusedAs, monitor2Of, sized, doneOf, payloadOf, listed, byKind, answerTo, listsBeside, withLists, ofFrame, replyOf}
 
 module _ (n : ℕ) (p : List ℕ) (a : Answer) where
   pub wrong-size : (length p ≡ n → ⊥) → is.Refused (refusedWith shape) ≡ sized n p a
@@ -61,32 +66,27 @@ pub neither : (b : ℕ) → (b ≡ 0x01 → ⊥) → (b ≡ 0x02 → ⊥) → is
 unfolding doneOf
 neither b h g = simp (ne-eqb _ _ h, ne-eqb _ _ g)
 
-module _ (asked f : ℕ) (p : List ℕ) (k : Kind) (e : k ≡ kindOf asked) where
-  pub not-listed : k ≡ Unlisted → refusedAs request ≡ answerTo asked f p
-  unfolding answerTo
-  not-listed h = ap (λ (x : Kind). byKind x asked f p) (sym h ∙ e)
+-- the answer by what the frame is to the function asked
+abbrev pub bySort : Sort → ℕ → List ℕ → Answer
+bySort Asked asked p = payloadOf asked p
+bySort Error asked p = sized 0 p is.DeviceError
+bySort Other asked p = refusedAs request
 
-  module _ (listed : OneOf (0 ∷ 1 ∷ []) (tagOf the-type k)) where
-    in-list : listedAnswer asked f p ≡ answerTo asked f p
-    unfolding answerTo
-    in-list = go k listed ∙ ap (λ (x : Kind). byKind x asked f p) e
-      where
-        go : (x : Kind) → OneOf (0 ∷ 1 ∷ []) (tagOf the-type x) → listedAnswer asked f p ≡ byKind x asked f p
-        go Reads h = refl
-        go Sets h = refl
-        go Unlisted h = absurd (⊎-elim (λ e. omega arith) (λ e. omega arith) h)
+pub by-sort : (asked f : ℕ) (p : List ℕ)
+    → bySort (pick (listed (kindOf asked)) (pick (not (eqb f 0)) (pick (eqb f asked) Asked Other) Error) Other) asked p ≡ answerTo asked f p
+unfolding answerTo sized
+by-sort asked f p = go (kindOf asked)
+  where
+    in-list : (none same : Bool) → bySort (pick (not none) (pick same Asked Other) Error) asked p
+        ≡ pick none (pick (eqb (length p) 0) is.DeviceError (refusedAs shape)) (pick same (payloadOf asked p) (refusedAs request))
+    in-list true same = refl
+    in-list false true = refl
+    in-list false false = refl
 
-    pub device-error : f ≡ 0 → length p ≡ 0 → is.DeviceError ≡ answerTo asked f p
-    device-error z h = simp (eq-eqb _ _ z, eq-eqb _ _ h) at in-list
-
-    pub long-error : f ≡ 0 → (length p ≡ 0 → ⊥) → refusedAs shape ≡ answerTo asked f p
-    long-error z h = simp (eq-eqb _ _ z, ne-eqb _ _ h) at in-list
-
-    pub another : (f ≡ 0 → ⊥) → (f ≡ asked → ⊥) → refusedAs request ≡ answerTo asked f p
-    another z h = simp (ne-eqb _ _ z, ne-eqb _ _ h) at in-list
-
-    pub answered : (f ≡ 0 → ⊥) → f ≡ asked → payloadOf asked p ≡ answerTo asked f p
-    answered z h = simp (ne-eqb _ _ z, eq-eqb _ _ h) at in-list
+    go : (k : Kind) → bySort (pick (listed k) (pick (not (eqb f 0)) (pick (eqb f asked) Asked Other) Error) Other) asked p ≡ byKind k asked f p
+    go Reads = in-list (eqb f 0) (eqb f asked)
+    go Sets = in-list (eqb f 0) (eqb f asked)
+    go Unlisted = refl
 
 -- ---- from the frame to the reply
 

@@ -2,6 +2,7 @@
 -- record.
 -- Assumes nothing.
 use Prim.Native.Nat.{ℕ}
+use mathlib.Core.Bool.{Bool, true, false}
 use mathlib.Core.List.{List}
 use lib.ListN.{length, getD, take, drop}
 use lib.Dec.{eqb}
@@ -71,6 +72,11 @@ abbrev pub listedAnswer : ℕ → ℕ → List ℕ → Answer
 listedAnswer asked f p =
     pick (eqb f 0) (pick (eqb (length p) 0) is.DeviceError (refusedAs shape))
     (pick (eqb f asked) (payloadOf asked p) (refusedAs request))
+
+abbrev pub listed : Kind → Bool
+listed Reads = true
+listed Sets = true
+listed Unlisted = false
 
 -- a function that is not listed is 7 before the device error
 abbrev pub byKind : Kind → ℕ → ℕ → List ℕ → Answer

@@ -19,9 +19,10 @@ use signs::signed16;
 ghost use mathlib.Core.Path.{_≡_};
 ghost use Prim.Native.Nat.{_+_, _<_, _≤_};
 ghost use lib.ListN.{length, getD};
+ghost use Rattle.laws.specs.Choice.{pick};
 ghost use Rattle.monitor3_tongzhu.specs.Layout.{foundAt};
 ghost use Rattle.monitor3_tongzhu.specs.Values.{numberAt, currentAt, statusAt};
-ghost use Rattle.records_tongzhu.specs.Replies.{refusedAs, monitor2Of, answerIn, doneOf, sized, payloadOf, answerTo, listsBeside, withLists, replyOf};
+ghost use Rattle.records_tongzhu.specs.Replies.{refusedAs, monitor2Of, answerIn, doneOf, sized, payloadOf, listed, answerTo, listsBeside, withLists, replyOf};
 
 // What function 11 tells (6.2.3).
 pub struct Monitor2 {
@@ -61,6 +62,13 @@ pub enum Answer {
 pub struct Reply {
     pub answer: Answer,
     pub lists: Lists,
+}
+
+// What a frame is to the function asked: its reply, the device error, or the reply to another.
+enum Sort {
+    Asked,
+    Error,
+    Other,
 }
 
 // Reads the reply to the function `asked`.
@@ -107,19 +115,48 @@ pub fn answer_to(asked: u8, function: u8, p: &[u8]) -> Answer
     ensures { λ r. ⌜ r ≡ answerTo asked function (now (p .entry)) ⌝ }
 {
     let k = kind_of(asked);
-    if let Kind::Unlisted = k {
-        return refused(refusals::REQUEST);
+    let sort = sort_of(is_listed(k), function != 0, function == asked);
+    match sort {
+        Sort::Asked => payload_of(asked, p),
+        Sort::Error => error_in(p),
+        Sort::Other => refused(refusals::REQUEST),
     }
-    if function == 0 {
-        if p.len() == 0 {
-            return Answer::DeviceError;
-        }
+}
+
+// What a frame is as a reply, in the order of 01: to a function that is not listed it is another one before it is a device error.
+fn sort_of(listed: bool, sound: bool, same: bool) -> Sort
+    ensures { λ r. ⌜ r ≡ pick listed (pick sound (pick same Sort.Asked Sort.Other) Sort.Error) Sort.Other ⌝ }
+{
+    if !listed {
+        return Sort::Other;
+    }
+    if !sound {
+        return Sort::Error;
+    }
+    if same {
+        return Sort::Asked;
+    }
+    Sort::Other
+}
+
+fn is_listed(k: Kind) -> bool
+    ensures { λ r. ⌜ r ≡ listed k ⌝ }
+{
+    match k {
+        Kind::Reads => true,
+        Kind::Sets => true,
+        Kind::Unlisted => false,
+    }
+}
+
+// The device error has no payload.
+fn error_in(p: &[u8]) -> Answer
+    ensures { λ r. ⌜ r ≡ sized 0 (now (p .entry)) Answer.DeviceError ⌝ }
+{
+    if p.len() != 0 {
         return refused(refusals::SHAPE);
     }
-    if function != asked {
-        return refused(refusals::REQUEST);
-    }
-    payload_of(asked, p)
+    Answer::DeviceError
 }
 
 // What the payload says, by the function.

@@ -1,16 +1,17 @@
 -- What the writers answer and leave in the room, each from the facts that they have at that place: the frame's writer made the frame of the request.
 -- Assumes nothing.
-use mathlib.Core.Path.{_≡_, refl, ap, _∙_}
+use mathlib.Core.Path.{_≡_, refl, sym, ap, _∙_}
 use mathlib.Core.Bool.{true, false}
 use mathlib.Core.List.{List, _++_}
-use Prim.Native.Nat.{ℕ, _-_, _≤_}
+use Prim.Native.Nat.{ℕ, _+_, _-_, _*_, _<_, _≤_}
 use native.Mathlib.Omega.{arith}
 use lib.ListN.{length, take, drop, replicate, length-append}
 use Rattle.laws.proofs.Filling.{front-taken}
 use Rattle.refusals.specs.declared.Written.{Written}
-use Rattle.refusals.specs.Refused.{range}
+use Rattle.refusals.specs.declared.Written.the-variants.{Refused}
+use Rattle.refusals.specs.Refused.{refusedWith, range, room}
 use Rattle.refusals.specs.Writing.{roomAfter}
-use Rattle.refusals.proofs.Writing.{short-enough}
+use Rattle.refusals.proofs.Writing.{short-enough, no-room}
 use Rattle.frames_written_pace.specs.Written.{frameChars, framedAs}
 use Rattle.frames_written_pace.proofs.Writing.{chars-length}
 use Rattle.writes_pace.specs.declared.Info.{Info}
@@ -57,14 +58,20 @@ sent q info out after w sound i answer room = (
   room ∙ ap (λ (l : List ℕ). roomAfter w (frameChars (addressOf q) (codeOf q) l) out) i,
 )
 
+-- and too little room for it
+pub short-of-room : (q : Request) (places : ℕ) → 0 ≡ faultOf q → places < 2 * length (infoOf q) + 18 → Refused (refusedWith room) ≡ sentAs q places
+short-of-room q places sound less = no-room (faultOf q) _ places (sym sound) (rw (chars-length (addressOf q) (codeOf q) (infoOf q)) less)
+
 -- ---- the INFO of values, as the part of an array that is lent
 
 module _ (v : Values) (i : Info) (x : i ≡ writes.infoRecord v) where
+  pub info-size : i .len ≡ length (writes.infoOf v)
+  info-size = ap (λ (y : Info). y .len) x
+
   pub info-fits : i .len ≤ length (i .bytes)
   info-fits =
-      let size : i .len ≡ length (writes.infoOf v) = ap (λ (y : Info). y .len) x in
       let all : length (i .bytes) ≡ length (writes.infoOf v ++ drop (length (writes.infoOf v)) (replicate 8 0)) = ap (λ (y : Info). length (y .bytes)) x in
-      omega (arith, length-append (writes.infoOf v) (drop (length (writes.infoOf v)) (replicate 8 0)))
+      omega (arith, info-size, length-append (writes.infoOf v) (drop (length (writes.infoOf v)) (replicate 8 0)))
 
   pub info-lent : take (i .len - 0) (i .bytes) ≡ writes.infoOf v
   info-lent =

@@ -85,16 +85,22 @@ fn write_ask(address: u8, command: u8, out: &mut [u8]) -> Written
     }
 }
 
+// `write_frame` would refuse too little room as well; it is asked for here so that the order of the refusals stands in one place.
 fn write_values(address: u8, values: Values, out: &mut [u8]) -> Written
     ensures answer { λ r. ⌜ r ≡ sentAs (Request.Set address values) (length (now (out .entry))) ⌝ }
     ensures room { λ r. ⌜ now (out .exit) ≡ roomAfter r (frameFor (Request.Set address values)) (now (out .entry)) ⌝ }
 {
-    if !may_write(values) {
-        return Written::Refused(refuse(refusals::RANGE));
-    }
+    let allowed = may_write(values);
     let info = info_of(values);
     let bytes = info.bytes;
     let n = info.len;
+    let roomy = 2 * n + 18 <= out.len();
+    if !allowed {
+        return Written::Refused(refuse(refusals::RANGE));
+    }
+    if !roomy {
+        return Written::Refused(refuse(refusals::ROOM));
+    }
     write_frame(address, info.command, &bytes[0..n], out)
 }
 

@@ -43,14 +43,19 @@ pub fn write_ask(opcode: u8, out: &mut [u8]) -> Written
     ask_frame(opcode, out)
 }
 
-// Writes request 0E.
+// Writes request 0E. `begin` would refuse too little room as well; it is asked for here so that the order of the refusals stands in one place.
 pub fn write_set(register: u8, value: i32, out: &mut [u8]) -> Written
     ensures answer { λ r. ⌜ r ≡ sentAs (Request.Write register value) (length (now (out .entry))) ⌝ }
     ensures room { λ r. ⌜ now (out .exit) ≡ roomAfter r (frameFor (Request.Write register value)) (now (out .entry)) ⌝ }
 {
     let fault = fault_of_write(register, value);
-    if fault != 0 {
+    let sound = fault == 0;
+    let roomy = 11 <= out.len();
+    if !sound {
         return not_written(fault);
+    }
+    if !roomy {
+        return not_written(refusals::ROOM);
     }
     set_frame(register, value, out)
 }

@@ -3,9 +3,8 @@
 use mathlib.Core.Path.{_≡_}
 use mathlib.Core.Bool.{true, false}
 use mathlib.Core.List.{List}
-use Prim.Native.Nat.{ℕ, _<_, _≤_}
-use native.Mathlib.Omega.{arith}
-use borrow.Author.Tests.{le-leb, lt-leb, eq-eqb, ne-eqb}
+use Prim.Native.Nat.{ℕ}
+use borrow.Author.Tests.{eq-eqb, ne-eqb}
 use lib.Dec.{ltb}
 use lib.IntN.{ℤ}
 use lib.ListN.{length, getD}
@@ -17,6 +16,7 @@ use Rattle.records_pathfinder.specs.Replies.{payloadOf}
 use Rattle.frames_pathfinder.specs.declared.Frame.the-variants.{Whole, Refused as NoFrame}
 use Rattle.frames_pathfinder.specs.Reading.{frameOf}
 use Rattle.requests_pathfinder.specs.declared.Request.the-variants.{Ask, Write}
+use Rattle.requests_pathfinder.specs.Requests.{asks}
 use Rattle.requests_read_pathfinder.specs.declared.Parsed.the-variants.{Is, Refused}
 use Rattle.requests_read_pathfinder.specs.Reading.{parsedSet, parsedOf, requestOf}
 
@@ -48,22 +48,18 @@ module _ (op : ℕ) (load : List ℕ) where
   parsed-set h = simp (eq-eqb _ _ h)
 
   module _ (other : op ≡ 14 → ⊥) where
-    pub parsed-low : op < 1 → Refused (refusedWith request) ≡ parsedOf op load
+    pub parsed-unlisted : asks op ≡ false → Refused (refusedWith request) ≡ parsedOf op load
     unfolding parsedOf
-    parsed-low h = simp (ne-eqb _ _ other, lt-leb 1 op h)
+    parsed-unlisted h = simp (ne-eqb _ _ other, h)
 
-    pub parsed-high : 5 < op → Refused (refusedWith request) ≡ parsedOf op load
-    unfolding parsedOf
-    parsed-high h = simp (ne-eqb _ _ other, le-leb 1 op (omega arith), lt-leb op 5 h)
-
-    module _ (low : 1 ≤ op) (high : op ≤ 5) where
+    module _ (listed : asks op ≡ true) where
       pub parsed-misshapen : (length load ≡ 0 → ⊥) → Refused (refusedWith shape) ≡ parsedOf op load
       unfolding parsedOf
-      parsed-misshapen h = simp (ne-eqb _ _ other, le-leb 1 op low, le-leb op 5 high, ne-eqb _ _ h)
+      parsed-misshapen h = simp (ne-eqb _ _ other, listed, ne-eqb _ _ h)
 
       pub parsed-ask : length load ≡ 0 → Is (Ask op) ≡ parsedOf op load
       unfolding parsedOf
-      parsed-ask h = simp (ne-eqb _ _ other, le-leb 1 op low, le-leb op 5 high, eq-eqb _ _ h)
+      parsed-ask h = simp (ne-eqb _ _ other, listed, eq-eqb _ _ h)
 
 -- ---- from the frame to the request
 

@@ -53,9 +53,8 @@ unfolding faultOf
 parsed-back (Ask op) t e =
     let a = right (asks op) 0 (pick (eqb op 0x0E) shape request) (not-zero (eqb op 0x0E)) e in
     let b = both (leb 1 op) (leb op 5) (a .0) in
-    let low : 1 ≤ op = leb-true 1 op (b .0) in
     let high : op ≤ 5 = leb-true op 5 (b .1) in
-    sym (parsed-ask op [] (λ h. omega arith) low high refl)
+    sym (parsed-ask op [] (λ h. omega arith) (a .0) refl)
 parsed-back (Write r v) t e =
     let a = right (ltb r count) (pick (inRange r v) 0 range) register (λ h. omega arith) e in
     let b = right (inRange r v) 0 range (λ h. omega arith) (a .1) in

@@ -10,6 +10,7 @@ use requests_pathfinder::Request;
 use words_pathfinder::word;
 ghost use mathlib.Core.Path.{_≡_};
 ghost use Rattle.refusals.specs.Refused.{refusedWith};
+ghost use Rattle.requests_pathfinder.specs.Requests.{asks};
 ghost use Rattle.requests_read_pathfinder.specs.Reading.{parsedSet, parsedOf, requestOf};
 
 pub enum Parsed {
@@ -34,33 +35,44 @@ fn parse(opcode: u8, load: &[u8]) -> Parsed
     if opcode == 0x0E {
         return parse_set(load);
     }
-    if opcode < 1 {
+    let listed = is_asking(opcode);
+    let empty = load.len() == 0;
+    if !listed {
         return not_parsed(refusals::REQUEST);
     }
-    if 5 < opcode {
-        return not_parsed(refusals::REQUEST);
-    }
-    if load.len() != 0 {
+    if !empty {
         return not_parsed(refusals::SHAPE);
     }
     Parsed::Is(Request::Ask(opcode))
 }
 
+// Whether this opcode is that of a request without data.
+fn is_asking(opcode: u8) -> bool
+    ensures { λ r. ⌜ r ≡ asks opcode ⌝ }
+{
+    if opcode < 1 {
+        return false;
+    }
+    opcode <= 5
+}
+
 fn parse_set(load: &[u8]) -> Parsed
     ensures { λ r. ⌜ r ≡ parsedSet (now (load .entry)) ⌝ }
 {
-    if load.len() != 5 {
-        return not_parsed(refusals::SHAPE);
+    if load.len() == 5 {
+        let register = load[0];
+        let value = word(load[1], load[2], load[3], load[4]);
+        let known = is_register(register);
+        let allowed = in_range(register, value);
+        if !known {
+            return not_parsed(refusals::REGISTER);
+        }
+        if !allowed {
+            return not_parsed(refusals::RANGE);
+        }
+        return Parsed::Is(Request::Write { register, value });
     }
-    let register = load[0];
-    let value = word(load[1], load[2], load[3], load[4]);
-    if !is_register(register) {
-        return not_parsed(refusals::REGISTER);
-    }
-    if !in_range(register, value) {
-        return not_parsed(refusals::RANGE);
-    }
-    Parsed::Is(Request::Write { register, value })
+    not_parsed(refusals::SHAPE)
 }
 
 fn not_parsed(number: u8) -> Parsed

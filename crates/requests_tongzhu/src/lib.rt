@@ -44,12 +44,18 @@ fn write_ask(function: u8, out: &mut [u8]) -> Written
     }
 }
 
+// `begin` would refuse too little room as well; it is asked for here so that the order of the refusals stands in one place.
 fn write_time(t: Time, out: &mut [u8]) -> Written
     ensures answer { λ r. ⌜ r ≡ sentAs (Request.SetTime t) (length (now (out .entry))) ⌝ }
     ensures room { λ r. ⌜ now (out .exit) ≡ roomAfter r (frameFor (Request.SetTime t)) (now (out .entry)) ⌝ }
 {
-    if !is_real(t) {
+    let real = is_real(t);
+    let roomy = 12 <= out.len();
+    if !real {
         return Written::Refused(refuse(refusals::RANGE));
+    }
+    if !roomy {
+        return Written::Refused(refuse(refusals::ROOM));
     }
     time_frame(t, out)
 }

@@ -3,14 +3,11 @@
 use mathlib.Core.Path.{_≡_, refl, sym, ap, _∙_}
 use mathlib.Core.Bool.{Bool, true, false}
 use mathlib.Core.List.{List, [], _∷_}
-use mathlib.Core.Logic.{⊎-elim}
 use Prim.Native.Nat.{ℕ, _<_, _≤_}
 use native.Mathlib.Omega.{arith}
 use lib.IntN.{ℤ}
 use lib.Dec.{ltb}
 use lib.ListN.{length}
-use types.Run.{OneOf}
-use denote.Enum.Declared.{tagOf}
 use borrow.Author.Tests.{lt-ltb, le-ltb}
 use Rattle.refusals.specs.declared.Written.{Written}
 use Rattle.refusals.specs.Refused.{refusedWith, room, turn}
@@ -26,10 +23,9 @@ use Rattle.restore_jobs.specs.declared.Phase.{Phase}
 use Rattle.restore_jobs.specs.declared.Phase.the-variants.{Ready, Waiting, Stopped}
 use Rattle.restore_jobs.specs.declared.Job.{Job}
 use Rattle.restore_jobs.specs.Jobs.{phaseOf, machine}
-use Rattle.restore_jobs.proofs.Phase.{the-type}
 use Rattle.restore_next.specs.declared.Step.the-variants.{Done, Refused as NoStep}
 use Rattle.restore_next.specs.declared.Stepped.{Stepped}
-use Rattle.restore_next.specs.Next.{sentOf, stepFor, nextOf, roomFor, roomOf}
+use Rattle.restore_next.specs.Next.{isReady, sentOf, stepFor, nextOf, roomFor, roomOf}
 
 settings-apart : apart 15 slots ≡ true
 unfolding apart isIn
@@ -41,8 +37,8 @@ module _ (j : Job) (out : List ℕ) where
   by-asked a e = (ap (stepFor j (length out)) (sym e), ap (λ (x : M.Asked). roomFor x out) (sym e))
 
   module _ (p w : List ℤ) where
-    idle : (ph : Phase) → OneOf (1 ∷ 2 ∷ []) (tagOf the-type ph) → M.askedIn slots (length out) p w (phaseOf ph) ≡ M.declined (refusedWith turn)
-    idle Ready h = absurd (⊎-elim (λ e. omega arith) (λ e. omega arith) h)
+    idle : (ph : Phase) → isReady ph ≡ false → M.askedIn slots (length out) p w (phaseOf ph) ≡ M.declined (refusedWith turn)
+    idle Ready h = cc
     idle (Waiting r) h = refl
     idle Stopped h = refl
 
@@ -54,11 +50,19 @@ module _ (j : Job) (out : List ℕ) where
     first-offered [] r e = let z : _≡_ {A = ℕ} 0 1 = cc in absurd (omega arith)
     first-offered (x ∷ rest) r e = let q : x ≡ r = cc in rw q
 
-  pub out-of-turn : OneOf (1 ∷ 2 ∷ []) (tagOf the-type (j .phase))
+  pub out-of-turn : isReady (j .phase) ≡ false
       → (_≡_ {A = Stepped} (record { step = NoStep (refusedWith turn); job = j }) (nextOf j (length out))) × (out ≡ roomOf j out)
   out-of-turn h = by-asked (M.declined (refusedWith turn)) (idle (j .present) (j .wanted) (j .phase) h)
 
-  module _ (between : j .phase ≡ Ready) where
+  module _ (turn : isReady (j .phase) ≡ true) where
+    between : j .phase ≡ Ready
+    between = go (j .phase) turn
+      where
+        go : (ph : Phase) → isReady ph ≡ true → ph ≡ Ready
+        go Ready h = refl
+        go (Waiting r) h = cc
+        go Stopped h = cc
+
     pub nothing-to-write : firstOf (writes slots (j .present) (j .wanted)) ≡ Nothing
         → (_≡_ {A = Stepped} (record { step = Done; job = j }) (nextOf j (length out))) × (out ≡ roomOf j out)
     nothing-to-write e = by-asked M.done (rw between (none-offered (j .present) (j .wanted) (writes slots (j .present) (j .wanted)) e))

@@ -1,5 +1,6 @@
 -- What next gives (01, Restore): a step of the machine of `restore_order` on the job, and the step as this crate's types say it.
 -- Number and values of each case stand here: a frame's bytes are those that the request writer gives for request 0E.
+use mathlib.Core.Bool.{Bool, true, false}
 use mathlib.Core.List.{List}
 use Prim.Native.Nat.{ℕ}
 use lib.ListN.{length}
@@ -10,10 +11,18 @@ use Rattle.requests_pathfinder.specs.declared.Request.the-variants.{Write}
 use Rattle.requests_pathfinder.specs.Requests.{frameFor, sentAs}
 use Rattle.restore_order.specs.Slots.{slots}
 use Rattle.restore_order.specs.Machine as M
+use Rattle.restore_jobs.specs.declared.Phase.{Phase}
+use Rattle.restore_jobs.specs.declared.Phase.the-variants.{Ready, Waiting, Stopped}
 use Rattle.restore_jobs.specs.declared.Job.{Job}
 use Rattle.restore_jobs.specs.Jobs.{machine, held}
 use Rattle.restore_next.specs.declared.Step.the-variants.{Frame, Done, Refused as NoStep}
 use Rattle.restore_next.specs.declared.Stepped.{Stepped}
+
+-- between two frames: neither waiting nor stopped
+abbrev pub isReady : Phase → Bool
+isReady Ready = true
+isReady (Waiting r) = false
+isReady Stopped = false
 
 -- the writer's answer: its frame, and the job then waits; or its refusal, with the job as it was
 abbrev pub sentOf : Job → Job → Written → Stepped

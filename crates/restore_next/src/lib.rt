@@ -11,7 +11,7 @@ use restore_rules::first_write;
 ghost use mathlib.Core.Path.{_≡_};
 ghost use lib.ListN.{length};
 ghost use Rattle.refusals.specs.Refused.{refusedWith};
-ghost use Rattle.restore_next.specs.Next.{sentOf, nextOf, roomOf};
+ghost use Rattle.restore_next.specs.Next.{isReady, sentOf, nextOf, roomOf};
 
 pub enum Step {
     // A frame of so many bytes stands at the front of the room; its reply is due.
@@ -33,9 +33,11 @@ pub fn next(job: Job, out: &mut [u8]) -> Stepped
     ensures room { λ r. ⌜ now (out .exit) ≡ roomOf job (now (out .entry)) ⌝ }
 {
     let phase = job.phase;
-    let Phase::Ready = phase else {
+    let ready = is_ready(phase);
+    let roomy = 11 <= out.len();
+    if !ready {
         return declined(job, refusals::TURN);
-    };
+    }
     let present = job.present;
     let wanted = job.wanted;
     let First::At(register) = first_write(&present, &wanted) else {
@@ -44,7 +46,7 @@ pub fn next(job: Job, out: &mut [u8]) -> Stepped
             job,
         };
     };
-    if out.len() < 11 {
+    if !roomy {
         return declined(job, refusals::ROOM);
     }
     let value = wanted[register as usize];
@@ -55,6 +57,16 @@ pub fn next(job: Job, out: &mut [u8]) -> Stepped
         phase: Phase::Waiting(register),
     };
     sent(job, waits, written)
+}
+
+fn is_ready(phase: Phase) -> bool
+    ensures { λ r. ⌜ r ≡ isReady phase ⌝ }
+{
+    match phase {
+        Phase::Ready => true,
+        Phase::Waiting(_) => false,
+        Phase::Stopped => false,
+    }
 }
 
 fn declined(job: Job, number: u8) -> Stepped

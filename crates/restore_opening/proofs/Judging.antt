@@ -8,7 +8,7 @@ use native.Mathlib.Omega.{arith}
 use lib.IntN.{ℤ}
 use lib.Dec.{eqb}
 use lib.ListN.{length}
-use borrow.Author.Tests.{eqb-true}
+use borrow.Author.Tests.{eq-eqb, eqb-true}
 use Rattle.laws.proofs.Ladders.{both}
 use Rattle.refusals.specs.Refused.{refusedWith, shape, range, wantedPair, presentPair}
 use Rattle.restore_order.specs.Slots.{slots, at, sides}
@@ -19,6 +19,20 @@ use Rattle.restore_opening.specs.declared.Verdict.the-variants.{Accepted
 use Rattle.restore_opening.specs.Verdicts.{verdictOf}
 
 module _ (o w : List ℤ) where
+  -- without 50 words and 15 values nothing has the right shape; with them the types of the present settings decide
+  pub unsized : (eqb (length o) 50 && eqb (length w) 15) ≡ false → shapely pathfinder o w ≡ false
+  unsized h = go (eqb (length o) 50) (eqb (length w) 15) h
+    where
+      typed : Bool
+      typed = every 15 (λ n. pathfinder .fitsType n (at o n))
+
+      go : (a b : Bool) → (a && b) ≡ false → (a && (b && typed)) ≡ false
+      go true b e = rw e
+      go false b e = refl
+
+  pub sized : length o ≡ 50 → length w ≡ 15 → shapely pathfinder o w ≡ every 15 (λ n. pathfinder .fitsType n (at o n))
+  sized a b = rw (eq-eqb _ _ a, eq-eqb _ _ b)
+
   pub misshapen : shapely pathfinder o w ≡ false → Refused (refusedWith shape) ≡ verdictOf (opening pathfinder o w)
   unfolding opening
   misshapen h = rw h

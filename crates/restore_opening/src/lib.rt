@@ -9,11 +9,12 @@ use restore_rules::UPPERS;
 ghost use mathlib.Core.Path.{_≡_};
 ghost use mathlib.Core.Bool.{_&&_};
 ghost use Prim.Native.Nat.{_<_, _≤_};
+ghost use lib.Dec.{eqb};
 ghost use lib.ListN.{length};
 ghost use Rattle.registers_pathfinder.specs.Registers.{fitsType, inRange};
 ghost use Rattle.restore_order.specs.Slots.{at, sides, slots};
 ghost use Rattle.laws.specs.Every.{every};
-ghost use Rattle.restore_order.specs.Opening.{pathfinder, shapely, opening};
+ghost use Rattle.restore_order.specs.Opening.{pathfinder, opening};
 ghost use Rattle.restore_opening.specs.Verdicts.{verdictOf, fits, upright};
 
 pub enum Verdict {
@@ -21,20 +22,35 @@ pub enum Verdict {
     Refused(Refusal),
 }
 
-// Whether a restore of these present words towards these values may open: its tests, in their order.
+// Whether a restore of these present words towards these values may open.
 pub fn judge(present: &[i32], wanted: &[i32]) -> Verdict
     ensures { λ r. ⌜ r ≡ verdictOf (opening pathfinder (now (present .entry)) (now (wanted .entry))) ⌝ }
 {
-    if !is_shapely(present, wanted) {
+    if is_sized(present, wanted) {
+        return judge_values(present, wanted);
+    }
+    Verdict::Refused(refuse(refusals::SHAPE))
+}
+
+// The same of 50 words and 15 values. All tests are made before the first of them refuses: their order is that of the refusals alone.
+fn judge_values(present: &[i32], wanted: &[i32]) -> Verdict
+    requires { ⌜ (length (now present) ≡ 50) × (length (now wanted) ≡ 15) ⌝ }
+    ensures { λ r. ⌜ r ≡ verdictOf (opening pathfinder (now (present .entry)) (now (wanted .entry))) ⌝ }
+{
+    let typed = all_fit(present, false);
+    let ranged = all_fit(wanted, true);
+    let wanted_right = are_upright(wanted);
+    let present_right = are_upright(present);
+    if !typed {
         return Verdict::Refused(refuse(refusals::SHAPE));
     }
-    if !all_fit(wanted, true) {
+    if !ranged {
         return Verdict::Refused(refuse(refusals::RANGE));
     }
-    if !are_upright(wanted) {
+    if !wanted_right {
         return Verdict::Refused(refuse(refusals::WANTED_PAIR));
     }
-    if !are_upright(present) {
+    if !present_right {
         return Verdict::Refused(refuse(refusals::PRESENT_PAIR));
     }
     Verdict::Accepted
@@ -42,17 +58,14 @@ pub fn judge(present: &[i32], wanted: &[i32]) -> Verdict
 
 // ---- the tests
 
-// 50 words and 15 values, each present setting of its type.
-fn is_shapely(present: &[i32], wanted: &[i32]) -> bool
-    ensures { λ r. ⌜ r ≡ shapely pathfinder (now (present .entry)) (now (wanted .entry)) ⌝ }
+// 50 words and 15 values.
+fn is_sized(present: &[i32], wanted: &[i32]) -> bool
+    ensures { λ r. ⌜ r ≡ (eqb (length (now (present .entry))) 50 && eqb (length (now (wanted .entry))) 15) ⌝ }
 {
     if present.len() != 50 {
         return false;
     }
-    if wanted.len() != 15 {
-        return false;
-    }
-    all_fit(present, false)
+    wanted.len() == 15
 }
 
 // The first fifteen values are of their settings' types, and wanted ones in their registers' ranges too.

@@ -20,7 +20,7 @@ use Rattle.restore_reply.specs.declared.Outcome.the-variants.{Written as
 use Rattle.restore_reply.specs.declared.Answer.{Answer}
 use Rattle.restore_reply.specs.declared.Answer.the-variants.{Taken, Refused}
 use Rattle.restore_reply.specs.declared.Heard.{Heard}
-use Rattle.restore_reply.specs.Reply.{answerOf, readAs, heardAs, heardOf}
+use Rattle.restore_reply.specs.Reply.{isWaiting, answerOf, readAs, answerIn, heardAs, heardOf}
 
 -- what reply's answer says of what was read
 refused-read : (a : M.Answer) (why : Refusal) → answerOf a ≡ Refused why → a ≡ M.refused why
@@ -39,16 +39,20 @@ failure-read (M.failure c) code e = let q : c ≡ code = cc in ap M.failure q
 failure-read (M.refused n) code e = let z : _≡_ {A = ℕ} 0 1 = cc in absurd (omega arith)
 
 -- 14, before the reply is read
-pub not-waiting : (p w : List ℤ) (ph : Phase) (s : List ℕ) → OneOf (0 ∷ 2 ∷ []) (tagOf the-type ph)
-    → _≡_ {A = Heard} (record { answer = Refused (refusedWith turn); job = record { present = p; wanted = w; phase = ph } })
+pub not-waiting : (p w : List ℤ) (ph : Phase) (s : List ℕ) (answer : Answer) → OneOf (0 ∷ 2 ∷ []) (tagOf the-type ph)
+    → answer ≡ answerIn (isWaiting ph) s
+    → _≡_ {A = Heard} (record { answer = answer; job = record { present = p; wanted = w; phase = ph } })
     (heardOf (record { present = p; wanted = w; phase = ph }) s)
-not-waiting p w Ready s h = refl
-not-waiting p w (Waiting r) s h = absurd (⊎-elim (λ e. omega arith) (λ e. omega arith) h)
-not-waiting p w Stopped s h = refl
+not-waiting p w Ready s answer h e = rw e
+not-waiting p w (Waiting r) s answer h e = absurd (⊎-elim (λ e. omega arith) (λ e. omega arith) h)
+not-waiting p w Stopped s answer h e = rw e
 
-module _ (p w : List ℤ) (ph : Phase) (r : ℕ) (waits : ph ≡ Waiting r) (s : List ℕ) (answer : Answer) (read : answer ≡ answerOf (readAs s)) where
+module _ (p w : List ℤ) (ph : Phase) (r : ℕ) (waits : ph ≡ Waiting r) (s : List ℕ) (answer : Answer) (heard : answer ≡ answerIn (isWaiting ph) s) where
   abbrev job : Job
   job = record { present = p; wanted = w; phase = ph }
+
+  read : answer ≡ answerOf (readAs s)
+  read = heard ∙ rw waits
 
   -- what the machine hears decides
   by-heard : (a : M.Answer) → readAs s ≡ a → heardAs (record { present = p; wanted = w; phase = Waiting r }) a ≡ heardOf job s

@@ -8,7 +8,7 @@ use restore_jobs::Job;
 use restore_jobs::Phase;
 ghost use mathlib.Core.Path.{_≡_};
 ghost use Rattle.restore_order.specs.Slots.{at, put};
-ghost use Rattle.restore_reply.specs.Reply.{decodedOf, answerOf, readAs, heardOf};
+ghost use Rattle.restore_reply.specs.Reply.{isWaiting, decodedOf, answerOf, readAs, answerIn, heardOf};
 
 pub enum Outcome {
     // The register is written.
@@ -33,13 +33,11 @@ pub fn reply(job: Job, s: &[u8]) -> Heard
     ensures { λ r. ⌜ r ≡ heardOf job (now (s .entry)) ⌝ }
 {
     let phase = job.phase;
+    let waiting = is_waiting(phase);
+    let answer = hear(waiting, s);
     let Phase::Waiting(register) = phase else {
-        return Heard {
-            answer: Answer::Refused(refuse(refusals::TURN)),
-            job,
-        };
+        return Heard { answer, job };
     };
-    let answer = decode(s);
     // A refused reply leaves the job waiting: its number, with the job as it was.
     let Answer::Taken(outcome) = answer else {
         return Heard { answer, job };
@@ -57,6 +55,26 @@ pub fn reply(job: Job, s: &[u8]) -> Heard
 }
 
 // ---- what the reply is, and the job after it
+
+fn is_waiting(phase: Phase) -> bool
+    ensures { λ r. ⌜ r ≡ isWaiting phase ⌝ }
+{
+    match phase {
+        Phase::Ready => false,
+        Phase::Waiting(_) => true,
+        Phase::Stopped => false,
+    }
+}
+
+// What is heard: out of turn 14, before the reply is read.
+fn hear(waiting: bool, s: &[u8]) -> Answer
+    ensures { λ r. ⌜ r ≡ answerIn waiting (now (s .entry)) ⌝ }
+{
+    if !waiting {
+        return Answer::Refused(refuse(refusals::TURN));
+    }
+    decode(s)
+}
 
 // Reads the reply to a write.
 fn decode(s: &[u8]) -> Answer

@@ -55,8 +55,9 @@ fn first_in(present: &[i32; 50], wanted: &[i32; 15], upper: u8, lower: u8) -> Fi
     requires { ⌜ (upper < 15) × (lower < 15) ⌝ }
     ensures { λ r. ⌜ r ≡ firstOf (writes (slotOf upper lower ∷ []) (now (present .entry)) (now (wanted .entry))) ⌝ }
 {
-    let upper_first = present[upper as usize] < wanted[upper as usize];
-    if upper_first {
+    let from = present[upper as usize];
+    let to = wanted[upper as usize];
+    if from < to {
         first_of(present, wanted, upper, lower)
     } else {
         first_of(present, wanted, lower, upper)

@@ -1,64 +1,71 @@
--- `records_tongzhu::answer_to` meets its contract: each way out is a law of the ladder, from the tests that led there.
+-- `records_tongzhu::answer_to` meets its contract: each arm is the answer by what the frame is to the function asked.
 -- Assumes nothing.
-use mathlib.Core.Path.{_∙_}
+use mathlib.Core.Path.{_≡_, sym, ap, _∙_}
 use borrow.Author.Needs.{needs}
-use Rattle.records_tongzhu.proofs.Answers.{not-listed, device-error, long-error, another, answered}
+use Rattle.records_tongzhu.specs.declared.Sort.{Sort}
+use Rattle.frames_tongzhu.specs.Functions.{kindOf}
+use Rattle.records_tongzhu.specs.Replies.{listed, answerTo}
+use Rattle.records_tongzhu.proofs.Answers.{bySort, by-sort}
 use Rattle.records_tongzhu.proofs.answer_to.Statement.{statement}
 use Rattle.records_tongzhu.proofs.answer_to.Tie as tie
 
 kind-of-requires : tie.Need-kind-of-requires
 kind-of-requires c κs = search needs
 
+is-listed-requires : tie.Need-is-listed-requires
+is-listed-requires c κs = search needs
+
+sort-of-requires : tie.Need-sort-of-requires
+sort-of-requires c κs = search needs
+
+-- what the frame is, as the code holds it, makes the answer
+sorted : (c : tie.After-sort-of) (s : Sort) → c .sort-of .result ≡ s
+    → (let a = c .before .before .before .before .args in bySort s (a .asked) (a .p .now) ≡ answerTo (a .asked) (a .function) (a .p .now))
+sorted c s e =
+    let a = c .before .before .before .before .args in
+    let kind : c .before .is-listed .result ≡ listed (kindOf (a .asked)) = c .before .is-listed .ensures ∙ ap listed (c .before .before .kind-of .ensures) in
+    ap (λ (x : Sort). bySort x (a .asked) (a .p .now)) (sym e ∙ rw kind at (c .sort-of .ensures)) ∙ by-sort (a .asked) (a .function) (a .p .now)
+
 enum-told : tie.Need-enum-told
 enum-told c = search needs
+
+payload-of-requires : tie.Need-payload-of-requires
+payload-of-requires c κs = search needs
+
+enum-told-2 : tie.Need-enum-told-2
+enum-told-2 c = search needs
+
+error-in-requires : tie.Need-error-in-requires
+error-in-requires c κs = search needs
+
+enum-told-3 : tie.Need-enum-told-3
+enum-told-3 c = search needs
 
 refused-requires : tie.Need-refused-requires
 refused-requires c κs = search needs
 
 returns : tie.Need-returns
-returns c = c .refused .ensures ∙ not-listed _ _ _ _ (c .before .before .before .kind-of .ensures) (c .before .enum-told .given .1)
+returns c = c .payload-of .ensures ∙ sorted (c .before .before .before) _ (c .before .enum-told .given .1)
 
 returns-2 : tie.Need-returns-2
-returns-2 c =
-    let k = c .before .before in
-    device-error _ _ _ _ (k .before .kind-of .ensures) (k .match .keys2) (search needs) (search needs)
-
-refused-requires-2 : tie.Need-refused-requires-2
-refused-requires-2 c κs = search needs
+returns-2 c = c .error-in .ensures ∙ sorted (c .before .before .before) _ (c .before .enum-told2 .given .1)
 
 returns-3 : tie.Need-returns-3
-returns-3 c =
-    let k = c .before .before .before in
-    c .refused2 .ensures ∙ long-error _ _ _ _ (k .before .kind-of .ensures) (k .match .keys2) (search needs) (search needs)
-
-refused-requires-3 : tie.Need-refused-requires-3
-refused-requires-3 c κs = search needs
-
-returns-4 : tie.Need-returns-4
-returns-4 c =
-    let k = c .before .before .before in
-    c .refused3 .ensures ∙ another _ _ _ _ (k .before .kind-of .ensures) (k .match .keys2) (search needs) (search needs)
-
-payload-of-requires : tie.Need-payload-of-requires
-payload-of-requires c κs = search needs
-
-returns-5 : tie.Need-returns-5
-returns-5 c =
-    let k = c .before .before .before in
-    c .payload-of .ensures ∙ answered _ _ _ _ (k .before .kind-of .ensures) (k .match .keys2) (search needs) (search needs)
+returns-3 c = c .refused .ensures ∙ sorted (c .before .before .before) _ (c .before .enum-told3 .given .1)
 
 pub answer-to-spec : {M : Type 1} → statement M
 answer-to-spec =
     tie.close
     (tie.spec
     kind-of-requires
+    is-listed-requires
+    sort-of-requires
     enum-told
+    payload-of-requires
+    enum-told-2
+    error-in-requires
+    enum-told-3
     refused-requires
     returns
     returns-2
-    refused-requires-2
-    returns-3
-    refused-requires-3
-    returns-4
-    payload-of-requires
-    returns-5)
+    returns-3)

@@ -10,17 +10,17 @@ use Rattle.restore_rules.proofs.Slots.{first-of-slot}
 use Rattle.restore_rules.proofs.first_in.Statement.{statement}
 use Rattle.restore_rules.proofs.first_in.Tie as tie
 
-mul-upper-first : tie.Need-mul-upper-first
-mul-upper-first c = search needs
+mul-from : tie.Need-mul-from
+mul-from c = search needs
 
-element-copy-out-upper-first : tie.Need-element-copy-out-upper-first
-element-copy-out-upper-first c = search needs
+element-copy-out-from : tie.Need-element-copy-out-from
+element-copy-out-from c = search needs
 
-mul-upper-first-2 : tie.Need-mul-upper-first-2
-mul-upper-first-2 c = search needs
+mul-to : tie.Need-mul-to
+mul-to c = search needs
 
-element-copy-out-upper-first-2 : tie.Need-element-copy-out-upper-first-2
-element-copy-out-upper-first-2 c = search needs
+element-copy-out-to : tie.Need-element-copy-out-to
+element-copy-out-to c = search needs
 
 first-of-requires : tie.Need-first-of-requires
 first-of-requires c κs = search needs
@@ -35,7 +35,7 @@ returns c =
     let p = a .present .now in
     let w = a .wanted .now in
     let e : upperFirst p w (a .upper) ≡ true =
-    sym (ap₂ ltZ (from-bits (at p (a .upper)) (t .before .upper-first .given)) (from-bits (at w (a .upper)) (t .upper-first2 .given))) ∙ c .before .if1 .taken in
+    sym (ap₂ ltZ (from-bits (at p (a .upper)) (t .before .from .given)) (from-bits (at w (a .upper)) (t .to .given))) ∙ c .before .if1 .taken in
     c .first-of .ensures ∙ first-of-slot p w (a .upper) (a .lower) true e
 
 returns-2 : tie.Need-returns-2
@@ -45,17 +45,17 @@ returns-2 c =
     let p = a .present .now in
     let w = a .wanted .now in
     let e : upperFirst p w (a .upper) ≡ false =
-    sym (ap₂ ltZ (from-bits (at p (a .upper)) (t .before .upper-first .given)) (from-bits (at w (a .upper)) (t .upper-first2 .given))) ∙ c .before .if1 .left in
+    sym (ap₂ ltZ (from-bits (at p (a .upper)) (t .before .from .given)) (from-bits (at w (a .upper)) (t .to .given))) ∙ c .before .if1 .left in
     c .first-of2 .ensures ∙ first-of-slot p w (a .upper) (a .lower) false e
 
 pub first-in-spec : {M : Type 1} → statement M
 first-in-spec =
     tie.close
     (tie.spec
-    mul-upper-first
-    element-copy-out-upper-first
-    mul-upper-first-2
-    element-copy-out-upper-first-2
+    mul-from
+    element-copy-out-from
+    mul-to
+    element-copy-out-to
     first-of-requires
     first-of-requires-2
     returns
