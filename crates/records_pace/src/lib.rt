@@ -70,7 +70,8 @@ pub fn read_reply(address: u8, asked: u8, s: &[u8]) -> Reply
     }
 }
 
-// A whole frame from the right address: its return code and INFO, as the answer to this command.
+// A whole frame from the right address: its return code and INFO, as the answer to this command. Tests and answers come first, so that the order alone
+// stands below.
 fn answered(address: u8, command: Command, code: u8, info: &[u8]) -> Reply
     requires { ⌜ allHex (now info) ≡ true ⌝ }
     ensures { λ r. ⌜ r ≡ answeredOf address command code (now (info .entry)) ⌝ }

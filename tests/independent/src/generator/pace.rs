@@ -581,6 +581,7 @@ fn requests(sample: &mut Sample) {
     parse("Another version and a command not listed: 6", &closed(b"240146C30000".to_vec()));
     parse("An odd count: 8", &closed(b"250146C1F0010".to_vec()));
     parse("of a command not listed: 7", &closed(b"250146C3F0010".to_vec()));
+    parse("of a write: 8", &closed(b"250046D0E011010E100E740D340A0".to_vec()));
     let mut limits = |comment: &str, code: u8, info: &[u8]| {
         parse(comment, &Frame::new(0x00, code, info).right());
     };
