@@ -1,20 +1,15 @@
-// PACE's requests for other languages (`rt staticlib exports_requests_pace`): numbers and slices only, each call safe with any input.
-// `specs/Requests.antt` says which number a request that is read goes out as, and at which place of the row each of its values stands.
+// PACE's requests, written, for other languages (`rt staticlib exports_requests_pace`): numbers and slices only, each call safe with any input.
+// `specs/Requests.antt` says which request the numbers of a setting are.
 use commands_pace::Values;
-use exports_answers::put_numbers;
 use exports_answers::written_number;
 use requests_pace::Request;
 use requests_pace::write_request;
-use requests_read_pace::Parsed;
-use requests_read_pace::read_request;
 ghost use mathlib.Core.Path.{_≡_};
 ghost use lib.ListN.{length};
-ghost use Rattle.exports_answers.specs.Told.{codeOf, rowAfter};
 ghost use Rattle.exports_answers.specs.Writing.{writtenCode};
 ghost use Rattle.refusals.specs.Writing.{roomAfter};
 ghost use Rattle.requests_pace.specs.Request.{frameFor, sentAs};
-ghost use Rattle.requests_read_pace.specs.Parsed.{parsedOf};
-ghost use Rattle.exports_requests_pace.specs.Requests.{overvoltage, discharge, setTold, requestTold, toldRequest};
+ghost use Rattle.exports_requests_pace.specs.Requests.{overvoltage, discharge};
 
 // Writes the PACE request with this command, one that carries no values.
 #[no_mangle]
@@ -65,67 +60,4 @@ pub extern "C" fn tracksaffron_pace_slow_discharge(
         delay_100ms: delay,
     };
     written_number(write_request(Request::Set { address, values }, out))
-}
-
-// Reads a PACE request; its values go to the front of the row.
-#[no_mangle]
-pub extern "C" fn tracksaffron_pace_parse(s: &[u8], row: &mut [i32]) -> u64
-    ensures answer { λ r. ⌜ r ≡ codeOf (toldRequest (parsedOf (now (s .entry)))) (length (now (row .entry))) 0 ⌝ }
-    ensures filled { λ r. ⌜ now (row .exit) ≡ rowAfter (toldRequest (parsedOf (now (s .entry)))) (now (row .entry)) ⌝ }
-{
-    let parsed = read_request(s);
-    match parsed {
-        Parsed::Is(q) => put_request(q, row),
-        Parsed::Refused(why) => why.number as u64,
-    }
-}
-
-fn put_request(q: Request, row: &mut [i32]) -> u64
-    ensures answer { λ n. ⌜ n ≡ codeOf (requestTold q) (length (now (row .entry))) 0 ⌝ }
-    ensures filled { λ n. ⌜ now (row .exit) ≡ rowAfter (requestTold q) (now (row .entry)) ⌝ }
-{
-    match q {
-        Request::Ask { address, command } => {
-            let numbers = [address as i32, command as i32];
-            put_numbers(1, &numbers, row)
-        }
-        Request::Set { address, values } => put_set(address, values, row),
-    }
-}
-
-// The values that a request sets, behind its address.
-fn put_set(address: u8, values: Values, row: &mut [i32]) -> u64
-    ensures answer { λ n. ⌜ n ≡ codeOf (setTold address values) (length (now (row .entry))) 0 ⌝ }
-    ensures filled { λ n. ⌜ now (row .exit) ≡ rowAfter (setTold address values) (now (row .entry)) ⌝ }
-{
-    match values {
-        Values::CellOvervoltage {
-            alarm_mv,
-            protect_mv,
-            release_mv,
-            delay_100ms,
-        } => {
-            let numbers = [
-                address as i32,
-                alarm_mv as i32,
-                protect_mv as i32,
-                release_mv as i32,
-                delay_100ms as i32,
-            ];
-            put_numbers(2, &numbers, row)
-        }
-        Values::SlowDischarge {
-            alarm_a,
-            protect_a,
-            delay_100ms,
-        } => {
-            let numbers = [
-                address as i32,
-                alarm_a as i32,
-                protect_a as i32,
-                delay_100ms as i32,
-            ];
-            put_numbers(3, &numbers, row)
-        }
-    }
 }

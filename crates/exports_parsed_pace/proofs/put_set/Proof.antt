@@ -1,4 +1,4 @@
--- `exports_requests_pace::put_set` meets its contract: by the two settings, number by number.
+-- `exports_parsed_pace::put_set` meets its contract: by the two settings, number by number.
 -- Assumes nothing.
 use mathlib.Core.Path.{refl, sym, ap}
 use native.Mathlib.Omega.{arith}
@@ -6,10 +6,10 @@ use mir.Syntax.{w32}
 use mir.ValLaws.{toZ-pos}
 use Rattle.exports_answers.proofs.Same.{then}
 use Rattle.exports_answers.proofs.Telling.{told-numbers}
-use Rattle.exports_requests_pace.specs.Requests.{setTold}
+use Rattle.exports_parsed_pace.specs.Requests.{setTold}
 use borrow.Author.Needs.{needs}
-use Rattle.exports_requests_pace.proofs.put_set.Statement.{statement}
-use Rattle.exports_requests_pace.proofs.put_set.Tie as tie
+use Rattle.exports_parsed_pace.proofs.put_set.Statement.{statement}
+use Rattle.exports_parsed_pace.proofs.put_set.Tie as tie
 
 enum-known-values : tie.Need-enum-known-values
 enum-known-values c = search needs

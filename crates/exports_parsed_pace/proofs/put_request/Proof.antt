@@ -1,4 +1,4 @@
--- `exports_requests_pace::put_request` meets its contract: by the request; the calls that put the values say the rest.
+-- `exports_parsed_pace::put_request` meets its contract: by the request; the calls that put the values say the rest.
 -- Assumes nothing.
 use mathlib.Core.Path.{refl, sym, ap}
 use native.Mathlib.Omega.{arith}
@@ -6,10 +6,10 @@ use mir.Syntax.{w32}
 use mir.ValLaws.{toZ-pos}
 use Rattle.exports_answers.proofs.Same.{then}
 use Rattle.exports_answers.proofs.Telling.{told-numbers}
-use Rattle.exports_requests_pace.specs.Requests.{requestTold}
+use Rattle.exports_parsed_pace.specs.Requests.{requestTold}
 use borrow.Author.Needs.{needs}
-use Rattle.exports_requests_pace.proofs.put_request.Statement.{statement}
-use Rattle.exports_requests_pace.proofs.put_request.Tie as tie
+use Rattle.exports_parsed_pace.proofs.put_request.Statement.{statement}
+use Rattle.exports_parsed_pace.proofs.put_request.Tie as tie
 
 enum-known-q : tie.Need-enum-known-q
 enum-known-q c = search needs
