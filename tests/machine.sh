@@ -1,6 +1,6 @@
 # Read by the scripts that run what the toolchain makes, which is for x86-64 Linux. On such a machine it runs as it is. On another one it runs
 # under an emulator, C is compiled by a cross compiler, and Rust by Debian's own compiler, which has its library for x86-64 too; the gate installs
-# them there (.ci/run). Speed is measured on x86-64 alone.
+# them there (.ci/run). Speed is measured without an emulator (bench/kit).
 
 emulated=
 if [ "$(uname -m)" != x86_64 ]; then
