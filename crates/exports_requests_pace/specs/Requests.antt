@@ -7,8 +7,8 @@ use Rattle.commands_pace.specs.declared.Values.{Values}
 use Rattle.commands_pace.specs.declared.Values.the-variants.{CellOvervoltage, SlowDischarge}
 use Rattle.requests_pace.specs.declared.Request.{Request}
 use Rattle.requests_pace.specs.declared.Request.the-variants.{Ask, Set}
-use Rattle.requests_pace.specs.declared.Parsed.{Parsed}
-use Rattle.requests_pace.specs.declared.Parsed.the-variants.{Is, Refused}
+use Rattle.requests_read_pace.specs.declared.Parsed.{Parsed}
+use Rattle.requests_read_pace.specs.declared.Parsed.the-variants.{Is, Refused}
 use Rattle.exports_answers.specs.Told.{Told, numbers, refused}
 
 -- ---- written

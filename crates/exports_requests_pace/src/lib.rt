@@ -3,17 +3,17 @@
 use commands_pace::Values;
 use exports_answers::put_numbers;
 use exports_answers::written_number;
-use requests_pace::Parsed;
 use requests_pace::Request;
-use requests_pace::read_request;
 use requests_pace::write_request;
+use requests_read_pace::Parsed;
+use requests_read_pace::read_request;
 ghost use mathlib.Core.Path.{_≡_};
 ghost use lib.ListN.{length};
 ghost use Rattle.exports_answers.specs.Told.{codeOf, rowAfter};
 ghost use Rattle.exports_answers.specs.Writing.{writtenCode};
 ghost use Rattle.refusals.specs.Writing.{roomAfter};
 ghost use Rattle.requests_pace.specs.Request.{frameFor, sentAs};
-ghost use Rattle.requests_pace.specs.Parsed.{parsedOf};
+ghost use Rattle.requests_read_pace.specs.Parsed.{parsedOf};
 ghost use Rattle.exports_requests_pace.specs.Requests.{overvoltage, discharge, setTold, requestTold, toldRequest};
 
 // Writes the PACE request with this command, one that carries no values.

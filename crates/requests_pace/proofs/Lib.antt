@@ -1,3 +1,1 @@
-pub mod Reading
-pub mod RoundTrip
 pub mod Writing

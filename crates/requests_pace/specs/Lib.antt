@@ -1,2 +1,1 @@
-pub mod Parsed
 pub mod Request

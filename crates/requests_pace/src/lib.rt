@@ -1,38 +1,24 @@
-// PACE requests, written and read (004; 01, PACE): 42 and 44 with the address as their one INFO byte; C1, C2, D1, DB without INFO; D0 and DA with values.
-use characters_pace::byte_of;
+// PACE requests (004; 01, PACE), written as frames: 42 and 44 with the address as their one INFO byte; C1, C2, D1, DB without INFO; D0 and DA with values.
+// `requests_read_pace` reads them.
 use commands_pace::Command;
 use commands_pace::Setting;
 use commands_pace::Values;
 use commands_pace::command_of;
-use frames_pace::Frame;
-use frames_pace::read_frame;
 use frames_written_pace::write_frame;
-use refusals::Refusal;
 use refusals::Written;
 use refusals::refuse;
-use settings_pace::Found;
-use settings_pace::parse_setting;
 use writes_pace::info_of;
 use writes_pace::may_write;
 ghost use mathlib.Core.Path.{_≡_};
-ghost use mathlib.Core.Bool.{true};
 ghost use lib.ListN.{length};
 ghost use Rattle.refusals.specs.Writing.{roomAfter};
-ghost use Rattle.characters_pace.specs.Characters.{allHex};
 ghost use Rattle.requests_pace.specs.Request.{kindOf, frameFor, sentAs};
-ghost use Rattle.requests_pace.specs.Parsed.{ofFound, wholeOf, parsedOf};
 
 pub enum Request {
     // A request without values.
     Ask { address: u8, command: u8 },
     // Values to be written.
     Set { address: u8, values: Values },
-}
-
-// What characters are as a request.
-pub enum Parsed {
-    Is(Request),
-    Refused(Refusal),
 }
 
 // What a command's request carries.
@@ -46,7 +32,7 @@ pub enum Kind {
     Unlisted,
 }
 
-fn kind_of(command: Command) -> Kind
+pub fn kind_of(command: Command) -> Kind
     ensures { λ r. ⌜ r ≡ kindOf command ⌝ }
 {
     match command {
@@ -102,62 +88,4 @@ fn write_values(address: u8, values: Values, out: &mut [u8]) -> Written
         return Written::Refused(refuse(refusals::ROOM));
     }
     write_frame(address, info.command, &bytes[0..n], out)
-}
-
-// The request that the characters are, or why they are none.
-pub fn read_request(s: &[u8]) -> Parsed
-    ensures { λ r. ⌜ r ≡ parsedOf (now (s .entry)) ⌝ }
-{
-    let f = read_frame(s);
-    match f {
-        Frame::Refused(w) => Parsed::Refused(w),
-        Frame::Whole {
-            address,
-            command,
-            start,
-            len,
-        } => whole(address, command, &s[start..start + len]),
-    }
-}
-
-// A whole frame: its address, its command and its INFO.
-fn whole(address: u8, code: u8, info: &[u8]) -> Parsed
-    requires { ⌜ allHex (now info) ≡ true ⌝ }
-    ensures { λ r. ⌜ r ≡ wholeOf address code (now (info .entry)) ⌝ }
-{
-    let k = kind_of(command_of(code));
-    match k {
-        Kind::Addressed => {
-            if info.len() != 2 {
-                return Parsed::Refused(refuse(refusals::SHAPE));
-            }
-            if byte_of(info, 0) != address {
-                return Parsed::Refused(refuse(refusals::SHAPE));
-            }
-            Parsed::Is(Request::Ask {
-                address,
-                command: code,
-            })
-        }
-        Kind::Bare => {
-            if info.len() != 0 {
-                return Parsed::Refused(refuse(refusals::SHAPE));
-            }
-            Parsed::Is(Request::Ask {
-                address,
-                command: code,
-            })
-        }
-        Kind::Carries(setting) => with_values(address, parse_setting(setting, info)),
-        Kind::Unlisted => Parsed::Refused(refuse(refusals::REQUEST)),
-    }
-}
-
-fn with_values(address: u8, found: Found) -> Parsed
-    ensures { λ r. ⌜ r ≡ ofFound address found ⌝ }
-{
-    match found {
-        Found::Set(values) => Parsed::Is(Request::Set { address, values }),
-        Found::Refused(w) => Parsed::Refused(w),
-    }
 }

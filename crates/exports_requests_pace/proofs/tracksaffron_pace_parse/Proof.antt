@@ -1,7 +1,7 @@
 -- `exports_requests_pace::tracksaffron_pace_parse` meets its contract: what the request reader answers, told.
 -- Assumes nothing.
 use mathlib.Core.Path.{sym, ap, _∙_}
-use Rattle.requests_pace.specs.Parsed.{parsedOf}
+use Rattle.requests_read_pace.specs.Parsed.{parsedOf}
 use Rattle.exports_answers.proofs.Telling.{told-refused}
 use Rattle.exports_requests_pace.specs.Requests.{toldRequest}
 use borrow.Author.Needs.{needs}

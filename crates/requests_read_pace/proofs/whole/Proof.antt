@@ -1,15 +1,15 @@
--- `requests_pace::whole` meets its contract: each way out is the case of `wholeOf` that its tests name.
+-- `requests_read_pace::whole` meets its contract: each way out is the case of `wholeOf` that its tests name.
 -- Assumes nothing.
 use mathlib.Core.Path.{_≡_, sym, ap, _∙_}
 use Rattle.commands_pace.specs.Commands.{commandOf}
 use Rattle.requests_pace.specs.declared.Kind.{Kind}
-use Rattle.requests_pace.specs.declared.Parsed.the-variants.{Refused}
+use Rattle.requests_read_pace.specs.declared.Parsed.the-variants.{Refused}
 use Rattle.requests_pace.specs.Request.{kindOf}
-use Rattle.requests_pace.specs.Parsed.{ofFound}
-use Rattle.requests_pace.proofs.Reading.{unlisted, other-size, other-byte, addressed, not-empty, empty, by-setting}
+use Rattle.requests_read_pace.specs.Parsed.{ofFound}
+use Rattle.requests_read_pace.proofs.Reading.{unlisted, other-size, other-byte, addressed, not-empty, empty, by-setting}
 use borrow.Author.Needs.{needs}
-use Rattle.requests_pace.proofs.whole.Statement.{statement}
-use Rattle.requests_pace.proofs.whole.Tie as tie
+use Rattle.requests_read_pace.proofs.whole.Statement.{statement}
+use Rattle.requests_read_pace.proofs.whole.Tie as tie
 
 -- the kind of the command
 known : (c : tie.After-kind-of) (k : Kind) → c .kind-of .result ≡ k → kindOf (commandOf (c .before .before .before .args .code)) ≡ k

@@ -1,4 +1,4 @@
--- `requests_pace::read_request` meets its contract: the frame by its reader's contract, the part that is handed on is INFO.
+-- `requests_read_pace::read_request` meets its contract: the frame by its reader's contract, the part that is handed on is INFO.
 -- Assumes nothing.
 use Prim.Native.Nat.{ℕ}
 use mathlib.Core.Path.{_≡_, sym, ap, _∙_}
@@ -6,11 +6,11 @@ use native.Mathlib.Omega.{arith}
 use Rattle.frames_pace.specs.declared.Frame.the-variants.{Whole}
 use Rattle.frames_pace.specs.Frame.{frameOf}
 use Rattle.frames_pace.proofs.Whole.{Said, whole-says, info-lent, info-hex}
-use Rattle.requests_pace.specs.Parsed.{wholeOf}
-use Rattle.requests_pace.proofs.Reading.{no-frame, a-frame}
+use Rattle.requests_read_pace.specs.Parsed.{wholeOf}
+use Rattle.requests_read_pace.proofs.Reading.{no-frame, a-frame}
 use borrow.Author.Needs.{needs}
-use Rattle.requests_pace.proofs.read_request.Statement.{statement}
-use Rattle.requests_pace.proofs.read_request.Tie as tie
+use Rattle.requests_read_pace.proofs.read_request.Statement.{statement}
+use Rattle.requests_read_pace.proofs.read_request.Tie as tie
 
 -- the frame and its fields
 abbrev from : (c : tie.After-known-told2) → tie.Start

@@ -1,8 +1,8 @@
--- `requests_pace::with_values` meets its contract: by what was found.
+-- `requests_read_pace::with_values` meets its contract: by what was found.
 -- Assumes nothing.
 use borrow.Author.Needs.{needs}
-use Rattle.requests_pace.proofs.with_values.Statement.{statement}
-use Rattle.requests_pace.proofs.with_values.Tie as tie
+use Rattle.requests_read_pace.proofs.with_values.Statement.{statement}
+use Rattle.requests_read_pace.proofs.with_values.Tie as tie
 
 enum-known-found : tie.Need-enum-known-found
 enum-known-found c = search needs

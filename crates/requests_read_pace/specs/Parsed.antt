@@ -15,12 +15,12 @@ use Rattle.commands_pace.specs.Commands.{commandOf}
 use Rattle.settings_pace.specs.declared.Found.{Found}
 use Rattle.settings_pace.specs.declared.Found.the-variants as setting
 use Rattle.settings_pace.specs.Reading as settings
 use Rattle.requests_pace.specs.declared.Kind.{Kind}
 use Rattle.requests_pace.specs.declared.Kind.the-variants.{Addressed, Bare, Carries, Unlisted}
 use Rattle.requests_pace.specs.declared.Request.the-variants.{Ask, Set}
-use Rattle.requests_pace.specs.declared.Parsed.{Parsed}
-use Rattle.requests_pace.specs.declared.Parsed.the-variants.{Is, Refused}
+use Rattle.requests_read_pace.specs.declared.Parsed.{Parsed}
+use Rattle.requests_read_pace.specs.declared.Parsed.the-variants.{Is, Refused}
 use Rattle.requests_pace.specs.Request.{kindOf}
 
 abbrev pub ofFound : ℕ → Found → Parsed
 ofFound address (setting.Set v) = Is (Set address v)

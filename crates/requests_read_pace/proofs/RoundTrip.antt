@@ -42,14 +42,14 @@ use Rattle.settings_pace.specs.declared.Found.{Found}
 use Rattle.settings_pace.specs.declared.Found.the-variants as setting
 use Rattle.settings_pace.specs.Reading as settings
 use Rattle.settings_pace.proofs.RoundTrip.{info-bytes, info-short, values-read-back, values-write-back}
 use Rattle.requests_pace.specs.declared.Kind.{Kind}
 use Rattle.requests_pace.specs.declared.Kind.the-variants.{Addressed, Bare, Carries, Unlisted}
 use Rattle.requests_pace.specs.declared.Request.{Request}
 use Rattle.requests_pace.specs.declared.Request.the-variants.{Ask, Set}
-use Rattle.requests_pace.specs.declared.Parsed.the-variants.{Is, Refused as NoRequest}
+use Rattle.requests_read_pace.specs.declared.Parsed.the-variants.{Is, Refused as NoRequest}
 use Rattle.requests_pace.specs.Request.{kindOf, addressOf, codeOf, askInfo, infoOf, frameFor, askFault, faultOf, sentAs}
-use Rattle.requests_pace.specs.Parsed.{ofFound, ofKind, wholeOf, ofFrame, parsedOf}
-use Rattle.requests_pace.proofs.Reading.{addressed, empty, carried, a-frame}
+use Rattle.requests_read_pace.specs.Parsed.{ofFound, ofKind, wholeOf, ofFrame, parsedOf}
+use Rattle.requests_read_pace.proofs.Reading.{addressed, empty, carried, a-frame}
 
 -- ---- written, then read
 

@@ -17,11 +17,11 @@ use Rattle.commands_pace.specs.declared.Setting.{Setting}
 use Rattle.commands_pace.specs.Commands.{commandOf}
 use Rattle.settings_pace.specs.declared.Found.the-variants as setting
 use Rattle.settings_pace.specs.Reading as settings
 use Rattle.requests_pace.specs.declared.Kind.the-variants.{Addressed, Bare, Carries, Unlisted}
 use Rattle.requests_pace.specs.declared.Request.the-variants.{Ask}
-use Rattle.requests_pace.specs.declared.Parsed.the-variants.{Is, Refused}
+use Rattle.requests_read_pace.specs.declared.Parsed.the-variants.{Is, Refused}
 use Rattle.requests_pace.specs.Request.{kindOf}
-use Rattle.requests_pace.specs.Parsed.{ofFound, wholeOf, parsedOf}
+use Rattle.requests_read_pace.specs.Parsed.{ofFound, wholeOf, parsedOf}
 
 module _ (address code : ℕ) (info : List ℕ) where
   pub unlisted : kindOf (commandOf code) ≡ Unlisted → Refused (refusedWith request) ≡ wholeOf address code info
