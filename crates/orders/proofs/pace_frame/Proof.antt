@@ -1,12 +1,12 @@
--- `frames_pace::first_fault` meets its contract: down the ladder past each test that held, to the one that failed.
+-- `orders::pace_frame` meets its contract: down the ladder past each test that held, to the one that failed.
 -- Assumes nothing.
 use mathlib.Core.Path.{_≡_}
 use mathlib.Core.Bool.{Bool, true, false, not}
 use Prim.Native.Nat.{ℕ}
 use borrow.Author.Tests.{not-true, not-false}
 use Rattle.laws.specs.Choice.{pick}
-use Rattle.frames_pace.proofs.first_fault.Statement.{statement}
-use Rattle.frames_pace.proofs.first_fault.Tie as tie
+use Rattle.orders.proofs.pace_frame.Statement.{statement}
+use Rattle.orders.proofs.pace_frame.Tie as tie
 
 module _ (t : Bool) (n m l : ℕ) where
   held : not t ≡ false → n ≡ m → n ≡ pick t m l
@@ -36,6 +36,6 @@ returns-6 c = search (held, failed) depth 8
 returns-7 : tie.Need-returns-7
 returns-7 c = search (held, failed) depth 8
 
-pub first-fault-spec : {M : Type 1} → statement M
-first-fault-spec =
+pub pace-frame-spec : {M : Type 1} → statement M
+pace-frame-spec =
     tie.close (tie.spec returns returns-2 returns-3 returns-4 returns-5 returns-6 returns-7)
