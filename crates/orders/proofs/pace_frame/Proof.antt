@@ -1,19 +1,8 @@
 -- `orders::pace_frame` meets its contract: down the ladder past each test that held, to the one that failed.
 -- Assumes nothing.
-use mathlib.Core.Path.{_≡_}
-use mathlib.Core.Bool.{Bool, true, false, not}
-use Prim.Native.Nat.{ℕ}
-use borrow.Author.Tests.{not-true, not-false}
-use Rattle.laws.specs.Choice.{pick}
+use Rattle.orders.proofs.Ladder.{held, failed}
 use Rattle.orders.proofs.pace_frame.Statement.{statement}
 use Rattle.orders.proofs.pace_frame.Tie as tie
-
-module _ (t : Bool) (n m l : ℕ) where
-  held : not t ≡ false → n ≡ m → n ≡ pick t m l
-  held h e = rw (not-false t h) e
-
-  failed : not t ≡ true → n ≡ l → n ≡ pick t m l
-  failed h e = rw (not-true t h) e
 
 returns : tie.Need-returns
 returns c = search (held, failed) depth 8
