@@ -1,6 +1,6 @@
 -- What the writers answer and leave in the room: header, data and end make the frame of the request, in front of what was there past it.
 -- The answer by the size of a request's frame; the room by the laws of the two halves. Assumes nothing.
-use mathlib.Core.Path.{_≡_, refl, sym, ap, _∙_}
+use mathlib.Core.Path.{_≡_, refl, ap, _∙_}
 use mathlib.Core.List.{List, [], _++_}
 use Prim.Native.Nat.{ℕ, _+_, _≤_}
 use borrow.Rule.Slice.PartMut.{putMid}
