@@ -13,6 +13,7 @@ use Rattle.sums.specs.Sums.{total, closes}
 use Rattle.lengths_pace.specs.declared.Length.the-variants.{Is}
 use Rattle.lengths_pace.specs.Lengths.{countOf}
 use Rattle.refusals.specs.Refused.{refusedWith, short, firstMark, lastMark, lengths, checksum, address, character}
+use Rattle.orders.specs.Orders.{paceFrame}
 use Rattle.frames_pace.specs.declared.Frame.{Frame}
 use Rattle.frames_pace.specs.declared.Frame.the-variants.{Whole, Refused}
 use Rattle.characters_pace.specs.Characters.{allHex, bytesIn, wordAt}
@@ -34,11 +35,6 @@ sum-lent s w t long e f =
 
 -- ---- the ladder
 
--- the first fault, by the tests in the order of 01
-abbrev pub firstOf : Bool → Bool → Bool → Bool → Bool → Bool → ℕ
-firstOf starts ends hex fits closed knows =
-    pick starts (pick ends (pick hex (pick fits (pick closed (pick knows 0 address) checksum) lengths) character) lastMark) firstMark
-
 -- w where the number is 0, else the refusal with it
 abbrev answer : ℕ → Frame → Frame
 answer n w = pick (eqb n 0) w (Refused (refusedWith n))
@@ -47,7 +43,7 @@ answer n w = pick (eqb n 0) w (Refused (refusedWith n))
 by-number : (a b c d e f : Bool) (w : Frame)
     → pick a (pick b (pick c (pick d (pick e (pick f w (Refused (refusedWith address))) (Refused (refusedWith checksum)))
     (Refused (refusedWith lengths))) (Refused (refusedWith character))) (Refused (refusedWith lastMark))) (Refused (refusedWith firstMark))
-    ≡ answer (firstOf a b c d e f) w
+    ≡ answer (paceFrame a b c d e f) w
 by-number false b c d e f w = refl
 by-number true false c d e f w = refl
 by-number true true false d e f w = refl
@@ -59,12 +55,12 @@ by-number true true true true true true w = refl
 -- the first fault of an input that is long enough, 0 for a frame
 abbrev pub fault : List ℕ → ℕ
 fault s =
-    firstOf (eqb (getD s 0 0) 0x7E) (eqb (getD s (length s - 1) 0) 0x0D) (allHex (innerOf s)) (counted s)
+    paceFrame (eqb (getD s 0 0) 0x7E) (eqb (getD s (length s - 1) 0) 0x0D) (allHex (innerOf s)) (counted s)
     (closes 65536 (total (coveredOf s)) (checkOf s)) (known s)
 
 -- the number that the reader finds, by tests of the parts that it lends, is this fault
 pub fault-lent : (s : List ℕ) (hex fits closed knows : Bool) (w n : ℕ) → 18 ≤ length s
-    → n ≡ firstOf (eqb (getD s 0 0) 0x7E) (eqb (getD s (length s - 1) 0) 0x0D) hex fits closed knows
+    → n ≡ paceFrame (eqb (getD s 0 0) 0x7E) (eqb (getD s (length s - 1) 0) 0x0D) hex fits closed knows
     → hex ≡ allHex (take (length s - 1 - 1) (drop 1 s)) → fits ≡ counted s
     → w ≡ wordAt (bytesIn (take (length s - 1 - (length s - 5)) (drop (length s - 5) s))) 0
     → closed ≡ closes 65536 (total (take (length s - 5 - 1) (drop 1 s))) w → knows ≡ known s → n ≡ fault s

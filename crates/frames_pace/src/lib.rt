@@ -5,6 +5,7 @@ use characters_pace::byte_of;
 use characters_pace::word_of;
 use lengths_pace::Length;
 use lengths_pace::length_count;
+use orders::pace_frame;
 use refusals::Refusal;
 use refusals::refuse;
 use sums::closes65536;
@@ -12,8 +13,6 @@ ghost use mathlib.Core.Path.{_≡_};
 ghost use mathlib.Core.Bool.{_&&_};
 ghost use lib.Dec.{eqb};
 ghost use lib.ListN.{getD};
-ghost use Rattle.laws.specs.Choice.{pick};
-ghost use Rattle.refusals.specs.Refused.{firstMark, lastMark, lengths, checksum, address, character};
 ghost use Rattle.lengths_pace.specs.Lengths.{countOf};
 ghost use Rattle.characters_pace.specs.Characters.{bytesIn, wordAt};
 ghost use Rattle.frames_pace.specs.Frame.{counts, frameOf};
@@ -53,7 +52,7 @@ pub fn read_frame(s: &[u8]) -> Frame
     let fits = has_count(head, n - 18);
     let closes = closes65536(&s[1..n - 5], word_of(&s[n - 5..n - 1], 0));
     let known = is_known(head);
-    let fault = first_fault(starts, ends, hex, fits, closes, known);
+    let fault = pace_frame(starts, ends, hex, fits, closes, known);
     if fault != 0 {
         return Frame::Refused(refuse(fault));
     }
@@ -63,31 +62,6 @@ pub fn read_frame(s: &[u8]) -> Frame
         start: 13,
         len: n - 18,
     }
-}
-
-// The first fault that is met, in the order of 01; 0 for none.
-fn first_fault(starts: bool, ends: bool, hex: bool, fits: bool, closes: bool, known: bool) -> u8
-    ensures { λ r. ⌜ r ≡ pick starts (pick ends (pick hex (pick fits (pick closes (pick known 0 address) checksum) lengths) character) lastMark) firstMark ⌝ }
-{
-    if !starts {
-        return refusals::FIRST_MARK;
-    }
-    if !ends {
-        return refusals::LAST_MARK;
-    }
-    if !hex {
-        return refusals::CHARACTER;
-    }
-    if !fits {
-        return refusals::LENGTH;
-    }
-    if !closes {
-        return refusals::CHECKSUM;
-    }
-    if !known {
-        return refusals::ADDRESS;
-    }
-    0
 }
 
 // Whether LENGTH, after the header's first four bytes, has its right digit and counts so many characters.

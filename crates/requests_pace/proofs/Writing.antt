@@ -1,17 +1,20 @@
 -- What the writers answer and leave in the room, each from the facts that they have at that place: the frame's writer made the frame of the request.
 -- Assumes nothing.
-use mathlib.Core.Path.{_≡_, refl, sym, ap, _∙_}
-use mathlib.Core.Bool.{true, false}
+use mathlib.Core.Path.{_≡_, refl, ap, _∙_}
 use mathlib.Core.List.{List, _++_}
-use Prim.Native.Nat.{ℕ, _+_, _-_, _*_, _<_, _≤_}
+use Prim.Native.Nat.{ℕ, _+_, _-_, _*_, _≤_}
 use native.Mathlib.Omega.{arith}
+use lib.Dec.{leb}
 use lib.ListN.{length, take, drop, replicate, length-append}
+use Rattle.laws.specs.Choice.{pick}
 use Rattle.laws.proofs.Filling.{front-taken}
 use Rattle.refusals.specs.declared.Written.{Written}
 use Rattle.refusals.specs.declared.Written.the-variants.{Refused}
-use Rattle.refusals.specs.Refused.{refusedWith, range, room}
+use Rattle.refusals.specs.Refused.{refusedWith, range}
 use Rattle.refusals.specs.Writing.{roomAfter}
-use Rattle.refusals.proofs.Writing.{short-enough, no-room}
+use Rattle.refusals.proofs.Writing.{short-enough}
+use Rattle.orders.specs.Orders.{writing}
+use Rattle.orders.proofs.Answers as orders
 use Rattle.frames_written_pace.specs.Written.{frameChars, framedAs}
 use Rattle.frames_written_pace.proofs.Writing.{chars-length}
 use Rattle.writes_pace.specs.declared.Info.{Info}
@@ -30,13 +33,9 @@ pub ask-fault : (address command : ℕ) (k : Kind) → k ≡ kindOf (commandOf c
 unfolding faultOf
 ask-fault address command k e = ap askFault e
 
-pub right-values : (address : ℕ) (v : Values) → allowedOf v ≡ true → 0 ≡ faultOf (Set address v)
+pub values-fault : (address : ℕ) (v : Values) → pick (allowedOf v) 0 range ≡ faultOf (Set address v)
 unfolding faultOf
-right-values address v h = rw h
-
-pub wrong-values : (address : ℕ) (v : Values) → allowedOf v ≡ false → range ≡ faultOf (Set address v)
-unfolding faultOf
-wrong-values address v h = rw h
+values-fault address v = refl
 
 -- LENGTH counts the characters of every request
 pub info-counted : (q : Request) → length (infoOf q) ≤ 2047
@@ -58,9 +57,10 @@ sent q info out after w sound i answer room = (
   room ∙ ap (λ (l : List ℕ). roomAfter w (frameChars (addressOf q) (codeOf q) l) out) i,
 )
 
--- and too little room for it
-pub short-of-room : (q : Request) (places : ℕ) → 0 ≡ faultOf q → places < 2 * length (infoOf q) + 18 → Refused (refusedWith room) ≡ sentAs q places
-short-of-room q places sound less = no-room (faultOf q) _ places (sym sound) (rw (chars-length (addressOf q) (codeOf q) (infoOf q)) less)
+-- r is the refusal that the writer found for the fault n and its room
+pub refused : (q : Request) (places len n r : ℕ) → len ≡ length (infoOf q) → n ≡ faultOf q → r ≡ writing n (leb (2 * len + 18) places) → (r ≡ 0 → ⊥)
+    → Refused (refusedWith r) ≡ sentAs q places
+refused q places len n r i e f = orders.refused (faultOf q) (length (frameFor q)) places r (rw (← e, chars-length (addressOf q) (codeOf q) (infoOf q), ← i) f)
 
 -- ---- the INFO of values, as the part of an array that is lent
 

@@ -5,13 +5,17 @@ use commands_pace::Setting;
 use commands_pace::Values;
 use commands_pace::command_of;
 use frames_written_pace::write_frame;
+use orders::writing;
 use refusals::Written;
 use refusals::refuse;
 use writes_pace::info_of;
 use writes_pace::may_write;
 ghost use mathlib.Core.Path.{_≡_};
 ghost use lib.ListN.{length};
+ghost use Rattle.laws.specs.Choice.{pick};
+ghost use Rattle.refusals.specs.Refused.{range};
 ghost use Rattle.refusals.specs.Writing.{roomAfter};
+ghost use Rattle.writes_pace.specs.Allowed.{allowedOf};
 ghost use Rattle.requests_pace.specs.Request.{kindOf, frameFor, sentAs};
 
 pub enum Request {
@@ -71,21 +75,28 @@ fn write_ask(address: u8, command: u8, out: &mut [u8]) -> Written
     }
 }
 
-// `write_frame` would refuse too little room as well; it is asked for here so that the order of the refusals stands in one place.
+// `write_frame` would refuse too little room as well; it is asked for here so that the order of the refusals is that of `writing`.
 fn write_values(address: u8, values: Values, out: &mut [u8]) -> Written
     ensures answer { λ r. ⌜ r ≡ sentAs (Request.Set address values) (length (now (out .entry))) ⌝ }
     ensures room { λ r. ⌜ now (out .exit) ≡ roomAfter r (frameFor (Request.Set address values)) (now (out .entry)) ⌝ }
 {
-    let allowed = may_write(values);
+    let fault = fault_of_values(values);
     let info = info_of(values);
     let bytes = info.bytes;
     let n = info.len;
-    let roomy = 2 * n + 18 <= out.len();
-    if !allowed {
-        return Written::Refused(refuse(refusals::RANGE));
-    }
-    if !roomy {
-        return Written::Refused(refuse(refusals::ROOM));
+    let refused = writing(fault, 2 * n + 18 <= out.len());
+    if refused != 0 {
+        return Written::Refused(refuse(refused));
     }
     write_frame(address, info.command, &bytes[0..n], out)
+}
+
+// The refusal that values meet before any room is looked at, or 0.
+fn fault_of_values(values: Values) -> u8
+    ensures { λ r. ⌜ r ≡ pick (allowedOf values) 0 range ⌝ }
+{
+    if may_write(values) {
+        return 0;
+    }
+    refusals::RANGE
 }

@@ -1,15 +1,18 @@
 -- What the writers answer and leave in the room: header, data and end make the frame of the request, in front of what was there past it.
 -- The answer by the size of a request's frame; the room by the laws of the two halves. Assumes nothing.
-use mathlib.Core.Path.{_≡_, refl, sym, ap, _∙_}
+use mathlib.Core.Path.{_≡_, refl, ap, _∙_}
 use mathlib.Core.List.{List, [], _++_}
-use Prim.Native.Nat.{ℕ, _+_, _<_, _≤_}
+use Prim.Native.Nat.{ℕ, _+_, _≤_}
 use borrow.Rule.Slice.PartMut.{putMid}
+use lib.Dec.{leb}
 use lib.IntN.{ℤ}
 use lib.ListN.{length, drop}
 use Rattle.refusals.specs.declared.Written.the-variants.{Frame, Refused}
-use Rattle.refusals.specs.Refused.{refusedWith, room}
+use Rattle.refusals.specs.Refused.{refusedWith}
 use Rattle.refusals.specs.Writing.{writtenAs}
-use Rattle.refusals.proofs.Writing.{no-room, fits}
+use Rattle.refusals.proofs.Writing.{fits}
+use Rattle.orders.specs.Orders.{writing}
+use Rattle.orders.proofs.Answers as orders
 use Rattle.frames_written_pathfinder.specs.Writing.{begun, sealed}
 use Rattle.frames_written_pathfinder.proofs.Writers.{frame-made, frame-length}
 use Rattle.requests_pathfinder.specs.declared.Request.{Request}
@@ -25,9 +28,9 @@ frame-size q = frame-length (opcodeOf q) (loadOf q)
 pub sent : (q : Request) (places n : ℕ) → n ≡ faultOf q → n ≡ 0 → writtenAs 0 (length (loadOf q) + 6) places ≡ sentAs q places
 sent q places n e h = rw (← frame-size q, ← h, e)
 
--- and too little room for it
-pub short-of-room : (q : Request) (places n : ℕ) → n ≡ faultOf q → n ≡ 0 → places < length (loadOf q) + 6 → Refused (refusedWith room) ≡ sentAs q places
-short-of-room q places n e h less = no-room (faultOf q) _ places (sym e ∙ h) (rw (frame-size q) less)
+-- r is the refusal that it found for this fault and its room
+pub refused : (q : Request) (places n r : ℕ) → n ≡ faultOf q → r ≡ writing n (leb (length (loadOf q) + 6) places) → (r ≡ 0 → ⊥) → Refused (refusedWith r) ≡ sentAs q places
+refused q places n r e f = orders.refused (faultOf q) (length (frameFor q)) places r (rw (← e, frame-size q) f)
 
 -- a request without fault goes out where there is room
 pub goes-out : (q : Request) (places : ℕ) → faultOf q ≡ 0 → length (loadOf q) + 6 ≤ places → Frame (length (loadOf q) + 6) ≡ sentAs q places

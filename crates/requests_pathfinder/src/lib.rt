@@ -2,6 +2,7 @@
 // register and a signed value, written as frames. `requests_read_pathfinder` reads them again.
 use frames_written_pathfinder::begin;
 use frames_written_pathfinder::seal;
+use orders::writing;
 use refusals::Written;
 use refusals::refuse;
 use registers_pathfinder::in_range;
@@ -43,19 +44,15 @@ pub fn write_ask(opcode: u8, out: &mut [u8]) -> Written
     ask_frame(opcode, out)
 }
 
-// Writes request 0E. `begin` would refuse too little room as well; it is asked for here so that the order of the refusals stands in one place.
+// Writes request 0E. `begin` would refuse too little room as well; it is asked for here so that the order of the refusals is that of `writing`.
 pub fn write_set(register: u8, value: i32, out: &mut [u8]) -> Written
     ensures answer { λ r. ⌜ r ≡ sentAs (Request.Write register value) (length (now (out .entry))) ⌝ }
     ensures room { λ r. ⌜ now (out .exit) ≡ roomAfter r (frameFor (Request.Write register value)) (now (out .entry)) ⌝ }
 {
     let fault = fault_of_write(register, value);
-    let sound = fault == 0;
-    let roomy = 11 <= out.len();
-    if !sound {
-        return not_written(fault);
-    }
-    if !roomy {
-        return not_written(refusals::ROOM);
+    let refused = writing(fault, 11 <= out.len());
+    if refused != 0 {
+        return not_written(refused);
     }
     set_frame(register, value, out)
 }

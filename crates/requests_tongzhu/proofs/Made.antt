@@ -1,17 +1,19 @@
 -- What the writers answer and leave in the room: head, payload and check make the frame of the request, in front of what was there past it.
 -- The answer by the size of a request's frame; the room by the laws of the two halves. Assumes nothing.
-use mathlib.Core.Path.{_≡_, sym, ap, _∙_}
+use mathlib.Core.Path.{_≡_, ap, _∙_}
 use mathlib.Core.Bool.{true, false}
 use mathlib.Core.List.{List, [], _++_}
-use Prim.Native.Nat.{ℕ, _+_, _<_}
+use Prim.Native.Nat.{ℕ, _+_}
 use native.Mathlib.Omega.{arith}
 use borrow.Rule.Slice.PartMut.{putMid}
+use lib.Dec.{leb}
 use lib.ListN.{length, drop, drop-of-length-le}
 use lib.Seq.{sets, sets-eq}
 use Rattle.refusals.specs.declared.Written.the-variants.{Refused}
-use Rattle.refusals.specs.Refused.{refusedWith, range, room}
+use Rattle.refusals.specs.Refused.{refusedWith, range}
 use Rattle.refusals.specs.Writing.{writtenAs}
-use Rattle.refusals.proofs.Writing.{no-room}
+use Rattle.orders.specs.Orders.{writing}
+use Rattle.orders.proofs.Answers as orders
 use Rattle.frames_tongzhu.specs.declared.Kind.{Kind}
 use Rattle.frames_tongzhu.specs.Functions.{kindOf}
 use Rattle.frames_written_tongzhu.specs.Writing.{begun, sealed}
@@ -31,9 +33,9 @@ frame-size q = frame-length (functionOf q) (loadOf q)
 pub sent : (q : Request) (places : ℕ) → 0 ≡ faultOf q → writtenAs 0 (length (loadOf q) + 6) places ≡ sentAs q places
 sent q places e = rw (← frame-size q, e)
 
--- and too little room for it
-pub short-of-room : (q : Request) (places : ℕ) → 0 ≡ faultOf q → places < length (loadOf q) + 6 → Refused (refusedWith room) ≡ sentAs q places
-short-of-room q places e less = no-room (faultOf q) _ places (sym e) (rw (frame-size q) less)
+-- r is the refusal that the writer found for the fault n and its room
+pub refused : (q : Request) (places n r : ℕ) → n ≡ faultOf q → r ≡ writing n (leb (length (loadOf q) + 6) places) → (r ≡ 0 → ⊥) → Refused (refusedWith r) ≡ sentAs q places
+refused q places n r e f = orders.refused (faultOf q) (length (frameFor q)) places r (rw (← e, frame-size q) f)
 
 pub ask-fault : (f : ℕ) (k : Kind) → k ≡ kindOf f → askFault k ≡ faultOf (Ask f)
 unfolding faultOf

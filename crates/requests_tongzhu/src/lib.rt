@@ -4,6 +4,7 @@ use frames_tongzhu::Kind;
 use frames_tongzhu::kind_of;
 use frames_written_tongzhu::begin;
 use frames_written_tongzhu::seal;
+use orders::writing;
 use refusals::Written;
 use refusals::refuse;
 use times_tongzhu::Time;
@@ -13,7 +14,7 @@ ghost use mathlib.Core.Path.{_≡_};
 ghost use lib.ListN.{length};
 ghost use Rattle.refusals.specs.Writing.{writtenAs, roomAfter};
 ghost use Rattle.times_tongzhu.specs.Times.{timeBytes};
-ghost use Rattle.requests_tongzhu.specs.Requests.{frameFor, sentAs};
+ghost use Rattle.requests_tongzhu.specs.Requests.{frameFor, faultOf, sentAs};
 
 pub enum Request {
     // Asks for what the function reads.
@@ -44,20 +45,26 @@ fn write_ask(function: u8, out: &mut [u8]) -> Written
     }
 }
 
-// `begin` would refuse too little room as well; it is asked for here so that the order of the refusals stands in one place.
+// `begin` would refuse too little room as well; it is asked for here so that the order of the refusals is that of `writing`.
 fn write_time(t: Time, out: &mut [u8]) -> Written
     ensures answer { λ r. ⌜ r ≡ sentAs (Request.SetTime t) (length (now (out .entry))) ⌝ }
     ensures room { λ r. ⌜ now (out .exit) ≡ roomAfter r (frameFor (Request.SetTime t)) (now (out .entry)) ⌝ }
 {
-    let real = is_real(t);
-    let roomy = 12 <= out.len();
-    if !real {
-        return Written::Refused(refuse(refusals::RANGE));
-    }
-    if !roomy {
-        return Written::Refused(refuse(refusals::ROOM));
+    let refused = writing(fault_of_time(t), 12 <= out.len());
+    if refused != 0 {
+        return Written::Refused(refuse(refused));
     }
     time_frame(t, out)
+}
+
+// The refusal that a time meets before any room is looked at, or 0.
+fn fault_of_time(t: Time) -> u8
+    ensures { λ r. ⌜ r ≡ faultOf (Request.SetTime t) ⌝ }
+{
+    if is_real(t) {
+        return 0;
+    }
+    refusals::RANGE
 }
 
 // The header, and the part for the check; there is no payload between them.

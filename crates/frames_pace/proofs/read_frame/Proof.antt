@@ -12,21 +12,21 @@ use Rattle.frames_pace.proofs.read_frame.Statement.{statement}
 use Rattle.frames_pace.proofs.read_frame.Tie as tie
 
 -- where the input was found long enough, the input, and that it is
-abbrev begun : tie.After-first-fault → tie.Else1
+abbrev begun : tie.After-pace-frame → tie.Else1
 begun c = c .before .before .before .before .before .before .before .before .before .before .before .before
 
-abbrev bytes : tie.After-first-fault → List ℕ
+abbrev bytes : tie.After-pace-frame → List ℕ
 bytes c = begun c .before .before .args .s .now
 
-long : (c : tie.After-first-fault) → 18 ≤ length (bytes c)
+long : (c : tie.After-pace-frame) → 18 ≤ length (bytes c)
 long c = begun c .if1 .left
 
 -- the fault that the reader finds is the definition's
-found : (c : tie.After-first-fault) → c .first-fault .result ≡ fault (bytes c)
+found : (c : tie.After-pace-frame) → c .pace-frame .result ≡ fault (bytes c)
 found c =
     let summed = c .before .before in
     let count = summed .before .before .before .before in
-    fault-lent (bytes c) _ _ _ _ _ _ (long c) (c .first-fault .ensures) (count .before .all-hex .ensures) (count .has-count .ensures)
+    fault-lent (bytes c) _ _ _ _ _ _ (long c) (c .pace-frame .ensures) (count .before .all-hex .ensures) (count .has-count .ensures)
     (summed .before .word-of .ensures) (summed .closes65536 .ensures) (c .before .is-known .ensures)
 
 refuse-requires : tie.Need-refuse-requires
@@ -107,8 +107,8 @@ closes65536-requires c κs = tt
 is-known-requires : tie.Need-is-known-requires
 is-known-requires c κs = tt
 
-first-fault-requires : tie.Need-first-fault-requires
-first-fault-requires c κs = tt
+pace-frame-requires : tie.Need-pace-frame-requires
+pace-frame-requires c κs = tt
 
 refuse-requires-2 : tie.Need-refuse-requires-2
 refuse-requires-2 c κs = tt
@@ -159,7 +159,7 @@ read-frame-spec =
     word-of-requires
     closes65536-requires
     is-known-requires
-    first-fault-requires
+    pace-frame-requires
     refuse-requires-2
     returns-2
     byte-of-requires

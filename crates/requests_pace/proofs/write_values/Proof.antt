@@ -1,19 +1,19 @@
--- `requests_pace::write_values` meets its contract: the values may be written, there is room for them, and the part that is lent is their INFO.
+-- `requests_pace::write_values` meets its contract: the first refusal changes nothing; where there is none, the part that is lent is the INFO of the values.
 -- Assumes nothing.
 use mathlib.Core.Path.{_≡_, refl, sym, ap, _∙_}
-use Prim.Native.Nat.{ℕ, _+_, _-_, _*_, _<_, _≤_}
+use Prim.Native.Nat.{ℕ, _+_, _-_, _*_, _≤_}
 use native.Mathlib.Omega.{arith}
+use lib.Dec.{leb}
 use lib.ListN.{length, take}
-use borrow.Author.Tests.{not-true, not-false, leb-false}
-use Rattle.refusals.specs.Refused.{range}
 use Rattle.refusals.specs.Writing.{roomAfter}
-use Rattle.refusals.proofs.Writing.{faulty}
+use Rattle.orders.proofs.Answers.{faultless}
 use Rattle.frames_written_pace.specs.Written.{frameChars}
 use Rattle.writes_pace.specs.declared.Info.{Info}
 use Rattle.writes_pace.specs.Info as writes
 use Rattle.settings_pace.proofs.RoundTrip.{info-short}
 use Rattle.requests_pace.specs.declared.Request.the-variants.{Set}
-use Rattle.requests_pace.proofs.Writing.{right-values, wrong-values, sent, short-of-room, info-size, info-fits, info-lent}
+use Rattle.requests_pace.specs.Request.{faultOf}
+use Rattle.requests_pace.proofs.Writing.{values-fault, sent, refused, info-size, info-fits, info-lent}
 use borrow.Author.Needs.{needs}
 use Rattle.requests_pace.proofs.write_values.Statement.{statement}
 use Rattle.requests_pace.proofs.write_values.Tie as tie
@@ -25,37 +25,34 @@ size c = info-size (c .before .before .before .args .values) (c .info-of .result
 counted : (c : tie.After-info-of) → c .info-of .result .len ≤ 2047
 counted c = omega (arith, size c, info-short (c .before .before .before .args .values))
 
-may-write-requires : tie.Need-may-write-requires
-may-write-requires c κs = search needs
+-- and their fault
+fault : (c : tie.After-fault-of-values) → c .fault-of-values .result ≡ faultOf (Set (c .before .before .args .address) (c .before .before .args .values))
+fault c = c .fault-of-values .ensures ∙ values-fault (c .before .before .args .address) (c .before .before .args .values)
+
+fault-of-values-requires : tie.Need-fault-of-values-requires
+fault-of-values-requires c κs = search needs
 
 info-of-requires : tie.Need-info-of-requires
 info-of-requires c κs = search needs
 
-mul-roomy : tie.Need-mul-roomy
-mul-roomy c = omega (arith, counted (c .before))
+mul-writing : tie.Need-mul-writing
+mul-writing c = omega (arith, counted (c .before))
 
-add-roomy : tie.Need-add-roomy
-add-roomy c = omega (arith, counted (c .before))
+add-writing : tie.Need-add-writing
+add-writing c = omega (arith, counted (c .before))
+
+writing-requires : tie.Need-writing-requires
+writing-requires c κs = search needs
 
 refuse-requires : tie.Need-refuse-requires
 refuse-requires c κs = search needs
 
 returns : tie.Need-returns
 returns c =
-    let may = c .before .before .before .before in
-    rw (c .refuse .ensures) (faulty _ _ _ range (wrong-values _ _ (sym (may .may-write .ensures) ∙ not-true _ (c .before .if1 .taken))) (λ h. omega arith), refl)
-
-refuse-requires-2 : tie.Need-refuse-requires-2
-refuse-requires-2 c κs = search needs
-
-returns-2 : tie.Need-returns-2
-returns-2 c =
-    let one = c .before .before in
-    let i = one .before .before in
+    let w = c .before .before in
+    let i = w .before .before in
     let a = i .before .before .before .args in
-    let right = right-values (a .address) (a .values) (sym (i .before .may-write .ensures) ∙ not-false _ (one .if1 .left)) in
-    let less : length (a .out .now) < 2 * i .info-of .result .len + 18 = leb-false _ _ (not-true _ (c .before .if2 .taken)) in
-    rw (c .refuse2 .ensures) (short-of-room (Set (a .address) (a .values)) (length (a .out .now)) right (omega (arith, size i)), refl)
+    rw (c .refuse .ensures) (refused (Set (a .address) (a .values)) _ _ _ _ (size i) (fault (i .before)) (w .writing .ensures) (c .before .if1 .taken), refl)
 
 sub-write-frame : tie.Need-sub-write-frame
 sub-write-frame c = search needs
@@ -74,32 +71,32 @@ write-frame-requires c κs = search needs
 same-length : tie.Need-same-length
 same-length c = search needs
 
-returns-3 : tie.Need-returns-3
-returns-3 c =
-    let w = c .before .before in
-    let one = w .before .before .before .before .before in
-    let i = one .before .before in
+returns-2 : tie.Need-returns-2
+returns-2 c =
+    let f = c .before .before in
+    let clear = f .before .before .before .before in
+    let w = clear .before in
+    let i = w .before .before in
     let a = i .before .before .before .args in
-    let right = right-values (a .address) (a .values) (sym (i .before .may-write .ensures) ∙ not-false _ (one .if1 .left)) in
+    let none = faultless _ _ (leb (2 * i .info-of .result .len + 18) (length (a .out .now))) (w .writing .ensures) (clear .if1 .left) in
     let command = ap (λ (y : Info). y .command) (i .info-of .ensures) in
-    sent (Set (a .address) (a .values)) _ (a .out .now) _ _ right (info-lent (a .values) (i .info-of .result) (i .info-of .ensures)) (w .write-frame .ensures .0)
-    (w .write-frame .ensures .1 ∙ ap (λ (n : ℕ). roomAfter (w .write-frame .result) (frameChars (a .address) n (take (i .info-of .result .len - 0) (i .info-of .result .bytes))) (a .out .now)) command)
+    sent (Set (a .address) (a .values)) _ (a .out .now) _ _ (sym none ∙ fault (i .before)) (info-lent (a .values) (i .info-of .result) (i .info-of .ensures)) (f .write-frame .ensures .0)
+    (f .write-frame .ensures .1 ∙ ap (λ (n : ℕ). roomAfter (f .write-frame .result) (frameChars (a .address) n (take (i .info-of .result .len - 0) (i .info-of .result .bytes))) (a .out .now)) command)
 
 pub write-values-spec : {M : Type 1} → statement M
 write-values-spec =
     tie.close
     (tie.spec
-    may-write-requires
+    fault-of-values-requires
     info-of-requires
-    mul-roomy
-    add-roomy
+    mul-writing
+    add-writing
+    writing-requires
     refuse-requires
     returns
-    refuse-requires-2
-    returns-2
     sub-write-frame
     part-write-frame-start
     part-write-frame-end
     write-frame-requires
     same-length
-    returns-3)
+    returns-2)

@@ -1,16 +1,17 @@
--- `requests_pathfinder::write_set` meets its contract: a fault refuses and changes nothing, then too little room; else the frame.
+-- `requests_pathfinder::write_set` meets its contract: the first refusal changes nothing; where there is none, the frame.
 -- Assumes nothing.
 use mathlib.Core.Path.{_≡_, refl, ap, _∙_}
-use borrow.Author.Tests.{not-true, not-false, leb-false, eqb-true, eqb-false}
 use mir.Syntax.{w32}
 use mir.Val.{toZ, ofZ}
 use mir.ValLaws.{toZ-ofZ}
+use lib.Dec.{leb}
+use lib.ListN.{length}
 use Rattle.refusals.specs.Writing.{roomAfter}
-use Rattle.refusals.proofs.Writing.{faulty}
+use Rattle.orders.proofs.Answers.{faultless}
 use Rattle.requests_pathfinder.specs.declared.Request.{Request}
 use Rattle.requests_pathfinder.specs.declared.Request.the-variants.{Write}
 use Rattle.requests_pathfinder.specs.Requests.{frameFor, faultOf}
-use Rattle.requests_pathfinder.proofs.Made.{sent, short-of-room}
+use Rattle.requests_pathfinder.proofs.Made.{sent, refused}
 use borrow.Author.Needs.{needs}
 use Rattle.requests_pathfinder.proofs.write_set.Statement.{statement}
 use Rattle.requests_pathfinder.proofs.write_set.Tie as tie
@@ -25,20 +26,17 @@ fault c = c .fault-of-write .ensures ∙ ap faultOf (held (c .before .before))
 fault-of-write-requires : tie.Need-fault-of-write-requires
 fault-of-write-requires c κs = search needs
 
+writing-requires : tie.Need-writing-requires
+writing-requires c κs = search needs
+
 not-written-requires : tie.Need-not-written-requires
 not-written-requires c κs = search needs
 
 returns : tie.Need-returns
-returns c = rw (c .not-written .ensures) (faulty _ _ _ _ (fault (c .before .before)) (eqb-false _ _ (not-true _ (c .before .if1 .taken))), refl)
-
-not-written-requires-2 : tie.Need-not-written-requires-2
-not-written-requires-2 c κs = search needs
-
-returns-2 : tie.Need-returns-2
-returns-2 c =
-    let one = c .before .before in
-    let q = Write (one .before .before .before .args .register) (one .before .before .before .args .value) in
-    rw (c .not-written2 .ensures) (short-of-room q _ _ (fault (one .before)) (eqb-true _ _ (not-false _ (one .if1 .left))) (leb-false _ _ (not-true _ (c .before .if2 .taken))), refl)
+returns c =
+    let w = c .before .before in
+    let a = w .before .before .before .args in
+    rw (c .not-written .ensures) (refused (Write (a .register) (a .value)) _ _ _ (fault (w .before)) (w .writing .ensures) (c .before .if1 .taken), refl)
 
 set-frame-requires : tie.Need-set-frame-requires
 set-frame-requires c κs = search needs
@@ -46,14 +44,15 @@ set-frame-requires c κs = search needs
 same-length : tie.Need-same-length
 same-length c = search needs
 
-returns-3 : tie.Need-returns-3
-returns-3 c =
-    let one = c .before .before .before .before .before in
-    let start = one .before .before .before in
+returns-2 : tie.Need-returns-2
+returns-2 c =
+    let clear = c .before .before .before .before in
+    let w = clear .before in
+    let start = w .before .before .before in
     let a = start .args in
-    let w = c .before .before .set-frame in (
-      w .ensures .0 ∙ sent (Write (a .register) (a .value)) _ _ (fault (one .before)) (eqb-true _ _ (not-false _ (one .if1 .left))),
-      w .ensures .1 ∙ ap (λ (x : Request). roomAfter (w .result) (frameFor x) (a .out .now)) (held start),
+    let f = c .before .before .set-frame in (
+      f .ensures .0 ∙ sent (Write (a .register) (a .value)) _ _ (fault (w .before)) (faultless _ _ (leb 11 (length (a .out .now))) (w .writing .ensures) (clear .if1 .left)),
+      f .ensures .1 ∙ ap (λ (x : Request). roomAfter (f .result) (frameFor x) (a .out .now)) (held start),
     )
 
 pub write-set-spec : {M : Type 1} → statement M
@@ -61,10 +60,9 @@ write-set-spec =
     tie.close
     (tie.spec
     fault-of-write-requires
+    writing-requires
     not-written-requires
     returns
-    not-written-requires-2
-    returns-2
     set-frame-requires
     same-length
-    returns-3)
+    returns-2)
