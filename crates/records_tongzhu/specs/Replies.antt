@@ -73,6 +73,7 @@ listedAnswer asked f p =
     pick (eqb f 0) (pick (eqb (length p) 0) is.DeviceError (refusedAs shape))
     (pick (eqb f asked) (payloadOf asked p) (refusedAs request))
 
+-- the functions that there are: 11, 12, 14, 15 read, 30 sets (01, Tongzhu)
 abbrev pub listed : Kind → Bool
 listed Reads = true
 listed Sets = true
