@@ -2,7 +2,6 @@
 // `specs/Requests.antt` says which number a request that is read goes out as, and at which place of the row each of its values stands.
 use exports_answers::put_numbers;
 use exports_answers::written_number;
-use flat_tongzhu::time_numbers;
 use requests_read_tongzhu::Parsed;
 use requests_read_tongzhu::read_request;
 use requests_tongzhu::Request;
@@ -15,7 +14,7 @@ ghost use Rattle.exports_answers.specs.Writing.{writtenCode};
 ghost use Rattle.refusals.specs.Writing.{roomAfter};
 ghost use Rattle.requests_tongzhu.specs.Requests.{frameFor, sentAs};
 ghost use Rattle.requests_read_tongzhu.specs.Reading.{parsedOf};
-ghost use Rattle.exports_requests_tongzhu.specs.Requests.{timeOf, requestTold, toldRequest};
+ghost use Rattle.exports_requests_tongzhu.specs.Requests.{timeOf, timeNumbers, requestTold, toldRequest};
 
 // Writes the request that asks for what a Tongzhu function reads.
 #[no_mangle]
@@ -78,4 +77,17 @@ fn put_request(q: Request, row: &mut [i32]) -> u64
             put_numbers(2, &time, row)
         }
     }
+}
+
+fn time_numbers(t: Time) -> [i32; 6]
+    ensures { λ r. ⌜ r ≡ timeNumbers t ⌝ }
+{
+    [
+        t.year as i32,
+        t.month as i32,
+        t.day as i32,
+        t.hour as i32,
+        t.minute as i32,
+        t.second as i32,
+    ]
 }

@@ -5,7 +5,6 @@ use lib.IntN.{ℤ, pos}
 use Rattle.monitor3_tongzhu.specs.declared.Status.{Status}
 use Rattle.monitor3_tongzhu.specs.declared.Monitor3.{Monitor3}
 use Rattle.records_tongzhu.specs.declared.Monitor2.{Monitor2}
-use Rattle.times_tongzhu.specs.declared.Time.{Time}
 
 -- places 0 to 3: the status bytes
 abbrev pub statusNumbers : Status → List ℤ
@@ -24,8 +23,3 @@ monitor3Numbers m =
     pos (m .status .first) ∷ pos (m .status .second) ∷ pos (m .status .third) ∷ pos (m .status .fourth)
     ∷ m .current ∷ pos (m .cells) ∷ pos (m .sensors) ∷ pos (m .mosfets)
     ∷ pos (m .cycles) ∷ pos (m .remaining) ∷ pos (m .capacity) ∷ pos (m .switch) ∷ []
-
--- places 0 to 5: the time that function 30 sets
-abbrev pub timeNumbers : Time → List ℤ
-timeNumbers t =
-    pos (t .year) ∷ pos (t .month) ∷ pos (t .day) ∷ pos (t .hour) ∷ pos (t .minute) ∷ pos (t .second) ∷ []

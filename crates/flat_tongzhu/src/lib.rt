@@ -2,9 +2,8 @@
 use monitor3_tongzhu::Monitor3;
 use monitor3_tongzhu::Status;
 use records_tongzhu::Monitor2;
-use times_tongzhu::Time;
 ghost use mathlib.Core.Path.{_≡_};
-ghost use Rattle.flat_tongzhu.specs.Numbers.{statusNumbers, monitor2Numbers, monitor3Numbers, timeNumbers};
+ghost use Rattle.flat_tongzhu.specs.Numbers.{statusNumbers, monitor2Numbers, monitor3Numbers};
 
 pub fn status_numbers(status: Status) -> [i32; 4]
     ensures { λ r. ⌜ r ≡ statusNumbers status ⌝ }
@@ -57,18 +56,5 @@ pub fn monitor3_numbers(m: Monitor3) -> [i32; 12]
         m.remaining as i32,
         m.capacity as i32,
         m.switch as i32,
-    ]
-}
-
-pub fn time_numbers(t: Time) -> [i32; 6]
-    ensures { λ r. ⌜ r ≡ timeNumbers t ⌝ }
-{
-    [
-        t.year as i32,
-        t.month as i32,
-        t.day as i32,
-        t.hour as i32,
-        t.minute as i32,
-        t.second as i32,
     ]
 }
