@@ -1,43 +1,7 @@
-// BCD bytes, real Gregorian dates of 2000 to 2099 and times of day (002, 6.9.3 and 6.11.2; 01, Tongzhu, function 30).
+// Real Gregorian dates of 2000 to 2099 and times of day (01, Tongzhu, function 30).
 ghost use mathlib.Core.Path.{_≡_};
 ghost use Prim.Native.Nat.{_+_, _≤_};
-ghost use Rattle.calendar.specs.Decimal.{bcdOf, bcdByte};
 ghost use Rattle.calendar.specs.Dates.{daysIn, realDate, realTime};
-
-// What a BCD byte stands for, or the byte of a number.
-pub enum Bcd {
-    Is(u8),
-    // A digit above 9, or a number above 99.
-    Other,
-}
-
-// The number of a BCD byte.
-pub fn read_bcd(b: u8) -> Bcd
-    ensures { λ r. ⌜ r ≡ bcdOf b ⌝ }
-{
-    let high = b / 16;
-    let low = b % 16;
-    if high < 10 {
-        if low < 10 {
-            Bcd::Is(high * 10 + low)
-        } else {
-            Bcd::Other
-        }
-    } else {
-        Bcd::Other
-    }
-}
-
-// The BCD byte of a number up to 99.
-pub fn write_bcd(n: u8) -> Bcd
-    ensures { λ r. ⌜ r ≡ bcdByte n ⌝ }
-{
-    if n < 100 {
-        Bcd::Is(n / 10 * 16 + n % 10)
-    } else {
-        Bcd::Other
-    }
-}
 
 // Whether there is such a day: year 0 to 99 stands for 2000 to 2099.
 pub fn is_date(year: u8, month: u8, day: u8) -> bool

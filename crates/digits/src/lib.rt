@@ -34,17 +34,17 @@ pub fn read_byte(high: u8, low: u8) -> Hex
     Hex::Value(h * 16 + l)
 }
 
-// The hex digit of the low four bits of n.
-pub fn write_digit(n: u8) -> u8
-    ensures { λ r. ⌜ r ≡ charOf (n % 16) ⌝ }
-{
-    let d = n % 16;
-    if d < 10 { d + 48 } else { d + 55 }
-}
-
 // The two hex digits of a byte.
 pub fn write_byte(b: u8) -> [u8; 2]
     ensures { λ r. ⌜ r ≡ charsOf b ⌝ }
 {
     [write_digit(b / 16), write_digit(b % 16)]
+}
+
+// The hex digit of the low four bits of n.
+fn write_digit(n: u8) -> u8
+    ensures { λ r. ⌜ r ≡ charOf (n % 16) ⌝ }
+{
+    let d = n % 16;
+    if d < 10 { d + 48 } else { d + 55 }
 }

@@ -1,4 +1,4 @@
-// Two's complement at 8, 16 and 32 bits: signed numbers from bits, and their bits (01: "in two's complement for signed types").
+// Two's complement: signed numbers from 8, 16 and 32 bits, and the 16 or 32 bits of one (01: "in two's complement for signed types").
 ghost use mathlib.Core.Path.{_≡_};
 ghost use Rattle.signs.specs.Signed.{signedOf, bitsOf};
 
@@ -29,13 +29,6 @@ pub fn signed32(n: u32) -> i32
     } else {
         !((4294967295 - n) as i32)
     }
-}
-
-// The 8 bits of v.
-pub fn bits8(v: i8) -> u8
-    ensures { λ r. ⌜ r ≡ bitsOf 8 v ⌝ }
-{
-    if 0 <= v { v as u8 } else { 255 - (!v) as u8 }
 }
 
 // The 16 bits of v.

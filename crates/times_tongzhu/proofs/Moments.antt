@@ -16,11 +16,11 @@ use Rattle.laws.proofs.Every.{each, holds}
 use Rattle.laws.specs.Firsts.{firsts}
 use Rattle.laws.proofs.Fronts.{front}
 use Rattle.laws.proofs.Ladders.{both}
-use Rattle.calendar.specs.declared.Bcd.{Bcd}
-use Rattle.calendar.specs.declared.Bcd.the-variants.{Is, Other}
-use Rattle.calendar.specs.Decimal.{bcdOf, bcdByte}
+use Rattle.bcd.specs.declared.Bcd.{Bcd}
+use Rattle.bcd.specs.declared.Bcd.the-variants.{Is, Other}
+use Rattle.bcd.specs.Decimal.{bcdOf, bcdByte}
 use Rattle.calendar.specs.Dates.{leap, days, daysIn, realDate, realTime}
-use Rattle.calendar.proofs.Tens.{bcd-reads-back, bcd-writes-back}
+use Rattle.bcd.proofs.Tens.{bcd-reads-back, bcd-writes-back}
 use Rattle.times_tongzhu.specs.declared.Time.{Time}
 use Rattle.times_tongzhu.specs.Times.{plainOf, real, timeIn, timeBytes}
 

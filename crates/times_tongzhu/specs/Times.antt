@@ -4,9 +4,9 @@ use Prim.Native.Nat.{ℕ}
 use mathlib.Core.Bool.{Bool, _&&_}
 use mathlib.Core.List.{List, [], _∷_}
 use lib.ListN.{getD}
-use Rattle.calendar.specs.declared.Bcd.{Bcd}
-use Rattle.calendar.specs.declared.Bcd.the-variants.{Is, Other}
-use Rattle.calendar.specs.Decimal.{bcdOf, bcdByte}
+use Rattle.bcd.specs.declared.Bcd.{Bcd}
+use Rattle.bcd.specs.declared.Bcd.the-variants.{Is, Other}
+use Rattle.bcd.specs.Decimal.{bcdOf, bcdByte}
 use Rattle.calendar.specs.Dates.{realDate, realTime}
 use Rattle.times_tongzhu.specs.declared.Time.{Time}
 

@@ -1,12 +1,12 @@
 // The date and time of day that Tongzhu's function 30 sets (002, 6.9.3 and 6.11; 01, Tongzhu): plain numbers, which of them are real, and the
 // six BCD bytes that carry them.
-use calendar::Bcd;
+use bcd::Bcd;
+use bcd::read_bcd;
+use bcd::write_bcd;
 use calendar::is_date;
 use calendar::is_time;
-use calendar::read_bcd;
-use calendar::write_bcd;
 ghost use mathlib.Core.Path.{_≡_};
-ghost use Rattle.calendar.specs.Decimal.{bcdOf, bcdByte};
+ghost use Rattle.bcd.specs.Decimal.{bcdOf, bcdByte};
 ghost use Rattle.times_tongzhu.specs.Times.{plainOf, real, timeIn, timeBytes};
 
 // A date and a time of day, as plain numbers.

@@ -6,7 +6,7 @@ use Rattle.laws.specs.Firsts.{firsts}
 use Rattle.checks.specs.Crc.{shift, shifts, crcFrom, crcOf}
 use Rattle.sums.specs.Sums.{total}
 use Rattle.lengths_pace.specs.Lengths.{wordOf}
-use Rattle.calendar.specs.Decimal.{bcdByte}
+use Rattle.bcd.specs.Decimal.{bcdByte}
 use Rattle.calendar.specs.Dates.{leap, days, daysIn, realDate, realTime}
 use Rattle.frames_tongzhu.specs.Functions.{kindOf}
 use Rattle.frames_written_tongzhu.specs.Writing.{frameBytes}

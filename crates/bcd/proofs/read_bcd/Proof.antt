@@ -1,10 +1,10 @@
--- `calendar::read_bcd` meets its contract: each way out rewrites with the tests that led there.
+-- `bcd::read_bcd` meets its contract: each way out rewrites with the tests that led there.
 -- Assumes nothing.
 use borrow.Author.Tests.{lt-ltb, le-ltb}
-use Rattle.calendar.specs.Decimal.{bcdOf}
+use Rattle.bcd.specs.Decimal.{bcdOf}
 use borrow.Author.Needs.{needs}
-use Rattle.calendar.proofs.read_bcd.Statement.{statement}
-use Rattle.calendar.proofs.read_bcd.Tie as tie
+use Rattle.bcd.proofs.read_bcd.Statement.{statement}
+use Rattle.bcd.proofs.read_bcd.Tie as tie
 
 mul-t8 : tie.Need-mul-t8
 mul-t8 c = search needs

@@ -4,8 +4,8 @@ use mathlib.Core.Bool.{_&&_}
 use Prim.Native.Nat.{ℕ, _+_, _*_, _/_, _%_}
 use lib.Dec.{ltb}
 use Rattle.laws.specs.Choice.{pick}
-use Rattle.calendar.specs.declared.Bcd.{Bcd}
-use Rattle.calendar.specs.declared.Bcd.the-variants.{Is, Other}
+use Rattle.bcd.specs.declared.Bcd.{Bcd}
+use Rattle.bcd.specs.declared.Bcd.the-variants.{Is, Other}
 
 -- the number of a byte whose two halves are decimal digits
 unfoldable pub bcdOf : ℕ → Bcd

@@ -6,9 +6,9 @@ use Prim.Native.Nat.{ℕ, _<_}
 use lib.Dec.{T, eqb, eqb→eq}
 use Rattle.laws.specs.Every.{every}
 use Rattle.laws.proofs.Every.{each}
-use Rattle.calendar.specs.declared.Bcd.{Bcd}
-use Rattle.calendar.specs.declared.Bcd.the-variants.{Is, Other}
-use Rattle.calendar.specs.Decimal.{bcdOf, bcdByte}
+use Rattle.bcd.specs.declared.Bcd.{Bcd}
+use Rattle.bcd.specs.declared.Bcd.the-variants.{Is, Other}
+use Rattle.bcd.specs.Decimal.{bcdOf, bcdByte}
 
 -- the test that the answer is n
 isOf : Bcd → ℕ → Bool

@@ -1,10 +1,10 @@
--- `calendar::write_bcd` meets its contract: each way out rewrites with the test that led there.
+-- `bcd::write_bcd` meets its contract: each way out rewrites with the test that led there.
 -- Assumes nothing.
 use borrow.Author.Tests.{lt-ltb, le-ltb}
-use Rattle.calendar.specs.Decimal.{bcdByte}
+use Rattle.bcd.specs.Decimal.{bcdByte}
 use borrow.Author.Needs.{needs}
-use Rattle.calendar.proofs.write_bcd.Statement.{statement}
-use Rattle.calendar.proofs.write_bcd.Tie as tie
+use Rattle.bcd.proofs.write_bcd.Statement.{statement}
+use Rattle.bcd.proofs.write_bcd.Tie as tie
 
 mul-t5 : tie.Need-mul-t5
 mul-t5 c = search needs
