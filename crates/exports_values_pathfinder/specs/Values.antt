@@ -3,10 +3,10 @@
 use mathlib.Core.Bool.{Bool, true, false}
 use mathlib.Core.List.{[], _∷_}
 use lib.IntN.{ℤ, pos}
-use Rattle.rows_pathfinder.specs.declared.TenMillivolts.{TenMillivolts}
+use Rattle.units_pathfinder.specs.declared.TenMillivolts.{TenMillivolts}
+use Rattle.units_pathfinder.specs.Units.{millivoltsOf}
 use Rattle.rows_pathfinder.specs.declared.Row.{Row}
 use Rattle.rows_pathfinder.specs.declared.Row.the-variants as row
-use Rattle.rows_pathfinder.specs.Narrowing.{millivoltsOf}
 use Rattle.exports_answers.specs.Told.{Told, numbers, plain, refused}
 
 -- ten millivolts as their count

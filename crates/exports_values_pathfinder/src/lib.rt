@@ -3,9 +3,9 @@
 // An answer that is an enum goes out as one number: `specs/Values.antt` says which.
 use exports_answers::coded;
 use rows_pathfinder::Row;
-use rows_pathfinder::TenMillivolts;
-use rows_pathfinder::millivolts_of;
 use rows_pathfinder::narrow;
+use units_pathfinder::TenMillivolts;
+use units_pathfinder::millivolts_of;
 ghost use mathlib.Core.Path.{_≡_};
 ghost use mathlib.Core.List.{[], _∷_};
 ghost use lib.ListN.{length};

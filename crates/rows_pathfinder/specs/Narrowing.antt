@@ -3,21 +3,15 @@
 use Prim.Native.Nat.{ℕ, _-_, _%_, _^_}
 use mathlib.Core.Bool.{Bool, _&&_, _||_, not}
 use lib.Dec.{eqb}
-use lib.IntN.{ℤ, pos, _*ℤ_}
+use lib.IntN.{ℤ, pos}
 use Rattle.laws.specs.Choice.{pick}
 use Rattle.refusals.specs.Refused.{refusedWith, request, shape}
 use Rattle.signs.specs.Signed.{signedOf, bitsOf}
 use Rattle.types_pathfinder.specs.declared.RowType.{RowType}
 use Rattle.types_pathfinder.specs.declared.RowType.the-variants.{U8, I8, U16, I16, U32, I32, Bool as Boolean, TenMillivolts as Ten, Bits, NoRow, NoReply}
 use Rattle.types_pathfinder.specs.Types.{typeAt}
-use Rattle.rows_pathfinder.specs.declared.TenMillivolts.{TenMillivolts as Tens}
-use Rattle.rows_pathfinder.specs.declared.Millivolts.{Millivolts}
 use Rattle.rows_pathfinder.specs.declared.Row.{Row}
 use Rattle.rows_pathfinder.specs.declared.Row.the-variants.{Number, TenMillivolts, Truth, Missing, Refused}
-
--- counts of ten millivolts as millivolts
-abbrev pub millivoltsOf : Tens → Millivolts
-millivoltsOf v = record { 0 = v .0 *ℤ pos 10 }
 
 abbrev pub numberRow : Bool → ℤ → Row
 numberRow missing v = pick missing Missing (Number v)

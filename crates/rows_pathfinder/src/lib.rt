@@ -7,6 +7,7 @@ use signs::signed16;
 use signs::signed32;
 use types_pathfinder::RowType;
 use types_pathfinder::row_type;
+use units_pathfinder::TenMillivolts;
 ghost use mathlib.Core.Path.{_≡_};
 ghost use mathlib.Core.Bool.{_&&_, _||_};
 ghost use Prim.Native.Nat.{_-_, _%_, _<_};
@@ -14,13 +15,7 @@ ghost use lib.Dec.{eqb};
 ghost use lib.IntN.{pos};
 ghost use Rattle.refusals.specs.Refused.{refusedWith};
 ghost use Rattle.signs.specs.Signed.{signedOf};
-ghost use Rattle.rows_pathfinder.specs.Narrowing.{millivoltsOf, numberRow, tenRow, byBits, rowOf};
-
-// A reading in units of ten millivolts.
-pub struct TenMillivolts(pub i16);
-
-// A reading in millivolts.
-pub struct Millivolts(pub i32);
+ghost use Rattle.rows_pathfinder.specs.Narrowing.{numberRow, tenRow, byBits, rowOf};
 
 // What a row says.
 pub enum Row {
@@ -37,13 +32,6 @@ pub fn narrow(reply: u8, row: u8, word: i32) -> Row
     ensures { λ r. ⌜ r ≡ rowOf reply row word ⌝ }
 {
     by_bits(row_type(reply, row), reply == 0x03, bits32(word))
-}
-
-// The one conversion between the two units.
-pub fn millivolts_of(v: TenMillivolts) -> Millivolts
-    ensures { λ r. ⌜ r ≡ millivoltsOf v ⌝ }
-{
-    Millivolts(v.0 as i32 * 10)
 }
 
 // A word's 32 bits as this type. `may` says whether the type's extreme values mean no data.

@@ -4,7 +4,7 @@ use mathlib.Core.Path.{_≡_, ap, _∙_}
 use mir.Syntax.{w16, w32}
 use mir.Val.{toZ, ofZ}
 use mir.ValLaws.{toZ-ofZ}
-use Rattle.rows_pathfinder.specs.declared.Millivolts.{Millivolts}
+use Rattle.units_pathfinder.specs.declared.Millivolts.{Millivolts}
 use Rattle.exports_values_pathfinder.specs.Values.{millivoltsIn}
 use borrow.Author.Needs.{needs}
 use Rattle.exports_values_pathfinder.proofs.tracksaffron_pf_millivolts.Statement.{statement}

@@ -1,4 +1,4 @@
--- `rows_pathfinder::millivolts_of` meets its contract: ten times a number of 16 bits fits 32.
+-- `units_pathfinder::millivolts_of` meets its contract: ten times a number of 16 bits fits 32.
 -- Assumes nothing.
 use mathlib.Core.Path.{ap}
 use lib.IntN.{ℤ}
@@ -6,11 +6,11 @@ use mir.Syntax.{w16, w32}
 use mir.Val.{SFits}
 use mir.Facts.{sfits-widen}
 use Rattle.widths.proofs.Widening.{wide-fits}
-use Rattle.rows_pathfinder.proofs.Held.{ten-held-fits, ten-held}
-use Rattle.rows_pathfinder.specs.declared.Millivolts.{Millivolts}
+use Rattle.units_pathfinder.proofs.Held.{ten-held-fits, ten-held}
+use Rattle.units_pathfinder.specs.declared.Millivolts.{Millivolts}
 use borrow.Author.Needs.{needs}
-use Rattle.rows_pathfinder.proofs.millivolts_of.Statement.{statement}
-use Rattle.rows_pathfinder.proofs.millivolts_of.Tie as tie
+use Rattle.units_pathfinder.proofs.millivolts_of.Statement.{statement}
+use Rattle.units_pathfinder.proofs.millivolts_of.Tie as tie
 
 made : ℤ → Millivolts
 made z = record { 0 = z }
