@@ -5,7 +5,7 @@ use frames_pace::LAST;
 use frames_pace::VERSION;
 use lengths_pace::Length;
 use lengths_pace::length_word;
-use lists_pace::put_hex;
+use lists_written_pace::put_hex;
 use numbers::Order;
 use numbers::bytes16;
 use refusals::Written;

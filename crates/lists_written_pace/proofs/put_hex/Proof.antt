@@ -1,4 +1,4 @@
--- `lists_pace::put_hex` meets its contract. The loop's invariant: the characters of the bytes passed stand in front of what was there.
+-- `lists_written_pace::put_hex` meets its contract. The loop's invariant: the characters of the bytes passed stand in front of what was there.
 -- Assumes nothing.
 use Prim.Native.Nat.{ℕ, _+_, _-_, _*_, _/_, _%_, _≤_}
 use mathlib.Core.Path.{_≡_, refl, sym, ap, ap₂, _∙_}
@@ -13,8 +13,8 @@ use Rattle.digits.specs.Hexes.{charOf}
 use Rattle.characters_pace.specs.Characters.{halves, hexed}
 use Rattle.characters_pace.proofs.Carried.{hexed-length}
 use Rattle.characters_pace.proofs.Halves.{halves-more}
-use Rattle.lists_pace.proofs.put_hex.Statement.{statement}
-use Rattle.lists_pace.proofs.put_hex.Tie as tie
+use Rattle.lists_written_pace.proofs.put_hex.Statement.{statement}
+use Rattle.lists_written_pace.proofs.put_hex.Tie as tie
 
 abbrev Inv-loop : tie.InvT-loop
 Inv-loop bytes out₀ i₀ out i = (i ≤ length bytes) × ((out ≡ hexed (take i bytes) ++ drop (2 * i) out₀) × (length out ≡ length out₀))
