@@ -6,8 +6,8 @@ use lib.IntN.{ℤ}
 use Rattle.exports_answers.specs.Told.{Told, numbers, plain, refused, joined}
 use Rattle.monitor3_tongzhu.specs.declared.Monitor3.{Monitor3}
 use Rattle.monitor3_tongzhu.specs.declared.Lists.{Lists}
-use Rattle.records_tongzhu.specs.declared.Answer.{Answer}
-use Rattle.records_tongzhu.specs.declared.Answer.the-variants as is
+use Rattle.payloads_tongzhu.specs.declared.Answer.{Answer}
+use Rattle.payloads_tongzhu.specs.declared.Answer.the-variants as is
 use Rattle.records_tongzhu.specs.declared.Reply.{Reply}
 use Rattle.records_tongzhu.specs.Replies.{listsBeside}
 use Rattle.flat_tongzhu.specs.Numbers.{statusNumbers, monitor2Numbers, monitor3Numbers}

@@ -4,7 +4,7 @@ use mathlib.Core.List.{List, [], _∷_}
 use lib.IntN.{ℤ, pos}
 use Rattle.monitor3_tongzhu.specs.declared.Status.{Status}
 use Rattle.monitor3_tongzhu.specs.declared.Monitor3.{Monitor3}
-use Rattle.records_tongzhu.specs.declared.Monitor2.{Monitor2}
+use Rattle.payloads_tongzhu.specs.declared.Monitor2.{Monitor2}
 
 -- places 0 to 3: the status bytes
 abbrev pub statusNumbers : Status → List ℤ

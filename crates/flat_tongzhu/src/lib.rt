@@ -1,7 +1,7 @@
 // Tongzhu records as rows of numbers, for the console, C and Rust alike: `specs/Numbers.antt` says at which place each value stands.
 use monitor3_tongzhu::Monitor3;
 use monitor3_tongzhu::Status;
-use records_tongzhu::Monitor2;
+use payloads_tongzhu::Monitor2;
 ghost use mathlib.Core.Path.{_≡_};
 ghost use Rattle.flat_tongzhu.specs.Numbers.{statusNumbers, monitor2Numbers, monitor3Numbers};
 

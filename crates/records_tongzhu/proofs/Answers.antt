@@ -1,5 +1,4 @@
--- `answerTo` by what a frame is to the function asked; the ways out of an answer whose payload must have a certain size, each from the facts
--- that the code has there.
+-- `answerTo` by what a frame is to the function asked; from the frame to the reply; which answers have no lists.
 -- Assumes nothing.
 use mathlib.Core.Path.{_≡_, refl, ap, _∙_}
 use mathlib.Core.Bool.{Bool, true, false, not}
@@ -7,64 +6,27 @@ use mathlib.Core.Logic.{⊎-elim}
 use mathlib.Core.List.{List, [], _∷_}
 use Prim.Native.Nat.{ℕ, _+_, _-_}
 use native.Mathlib.Omega.{arith}
-use borrow.Author.Tests.{eq-eqb, ne-eqb}
 use lib.Dec.{eqb}
-use lib.IntN.{ℤ}
-use lib.ListN.{length, getD, take, drop}
+use lib.ListN.{take, drop}
 use types.Run.{OneOf}
 use denote.Enum.Declared.{tagOf}
 use Rattle.laws.specs.Choice.{pick}
 use Rattle.refusals.specs.declared.Refusal.{Refusal}
-use Rattle.refusals.specs.Refused.{refusedWith, request, shape, range}
+use Rattle.refusals.specs.Refused.{request}
 use Rattle.frames_tongzhu.specs.declared.Kind.{Kind}
 use Rattle.frames_tongzhu.specs.declared.Kind.the-variants.{Reads, Sets, Unlisted}
 use Rattle.frames_tongzhu.specs.Functions.{kindOf}
 use Rattle.frames_tongzhu.specs.declared.Frame.the-variants.{Whole, Refused as NoFrame}
 use Rattle.frames_tongzhu.specs.Reading.{frameOf}
 use Rattle.frames_tongzhu.proofs.Ladder.{payload-part}
-use Rattle.monitor3_tongzhu.specs.declared.Status.{Status}
 use Rattle.monitor3_tongzhu.specs.Layout.{noLists}
-use Rattle.monitor3_tongzhu.specs.Values.{numberAt, currentAt, temperatureAt, statusAt}
-use Rattle.records_tongzhu.specs.declared.Monitor2.{Monitor2}
+use Rattle.payloads_tongzhu.specs.declared.Answer.{Answer}
+use Rattle.payloads_tongzhu.specs.declared.Answer.the-variants as is
+use Rattle.payloads_tongzhu.proofs.Answer.{the-type as answers}
+use Rattle.payloads_tongzhu.specs.Payloads.{refusedAs, sized, payloadOf}
 use Rattle.records_tongzhu.specs.declared.Sort.{Sort}
 use Rattle.records_tongzhu.specs.declared.Sort.the-variants.{Asked, Error, Other}
-use Rattle.records_tongzhu.specs.declared.Answer.{Answer}
-use Rattle.records_tongzhu.specs.declared.Answer.the-variants as is
-use Rattle.records_tongzhu.proofs.Answer.{the-type as answers}
-use Rattle.records_tongzhu.specs.Replies.{refusedAs, monitor2Of, sized, doneOf, payloadOf, listed, byKind, answerTo, listsBeside, withLists, ofFrame, replyOf}
-
-module _ (n : ℕ) (p : List ℕ) (a : Answer) where
-  pub wrong-size : (length p ≡ n → ⊥) → is.Refused (refusedWith shape) ≡ sized n p a
-  unfolding sized
-  wrong-size h = simp (ne-eqb _ _ h)
-
-  pub right-size : length p ≡ n → a ≡ sized n p a
-  unfolding sized
-  right-size h = simp (eq-eqb _ _ h)
-
--- a monitor 2 put together from its values
-pub monitor2-is : (p : List ℕ) {s : Status} {i h c : ℤ} {a b d e f g w : ℕ}
-    → s ≡ statusAt p 0 → i ≡ currentAt p 4 → a ≡ numberAt p 6 → b ≡ numberAt p 8 → d ≡ numberAt p 10
-    → h ≡ temperatureAt p 12 → c ≡ temperatureAt p 13 → e ≡ numberAt p 14 → f ≡ numberAt p 16 → g ≡ numberAt p 18 → w ≡ getD p 20 0
-    → _≡_ {A = Monitor2} (record {
-      status = s;
-      current = i;
-      highest = a;
-      lowest = b;
-      total = d;
-      hottest = h;
-      coldest = c;
-      cycles = e;
-      remaining = f;
-      capacity = g;
-      switch = w;
-    }) (monitor2Of p)
-unfolding monitor2Of
-monitor2-is p ps pi pa pb pd ph pc pe pf pg pw = rw (ps, pi, pa, pb, pd, ph, pc, pe, pf, pg, pw)
-
-pub neither : (b : ℕ) → (b ≡ 0x01 → ⊥) → (b ≡ 0x02 → ⊥) → is.Refused (refusedWith range) ≡ doneOf b
-unfolding doneOf
-neither b h g = simp (ne-eqb _ _ h, ne-eqb _ _ g)
+use Rattle.records_tongzhu.specs.Replies.{listed, byKind, answerTo, listsBeside, withLists, ofFrame, replyOf}
 
 -- the answer by what the frame is to the function asked
 abbrev pub bySort : Sort → ℕ → List ℕ → Answer
@@ -74,11 +36,11 @@ bySort Other asked p = refusedAs request
 
 pub by-sort : (asked f : ℕ) (p : List ℕ)
     → bySort (pick (listed (kindOf asked)) (pick (not (eqb f 0)) (pick (eqb f asked) Asked Other) Error) Other) asked p ≡ answerTo asked f p
-unfolding answerTo sized
+unfolding answerTo
 by-sort asked f p = go (kindOf asked)
   where
     in-list : (none same : Bool) → bySort (pick (not none) (pick same Asked Other) Error) asked p
-        ≡ pick none (pick (eqb (length p) 0) is.DeviceError (refusedAs shape)) (pick same (payloadOf asked p) (refusedAs request))
+        ≡ pick none (sized 0 p is.DeviceError) (pick same (payloadOf asked p) (refusedAs request))
     in-list true same = refl
     in-list false true = refl
     in-list false false = refl

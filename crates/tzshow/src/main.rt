@@ -2,8 +2,8 @@
 use libc::STDIN_FILENO;
 use libc::STDOUT_FILENO;
 use monitor3_tongzhu::Status;
-use records_tongzhu::Answer;
-use records_tongzhu::Monitor2;
+use payloads_tongzhu::Answer;
+use payloads_tongzhu::Monitor2;
 use records_tongzhu::read_reply;
 
 fn main() {

@@ -3,7 +3,7 @@
 use mathlib.Core.Path.{refl, sym, ap, _∙_}
 use Rattle.monitor3_tongzhu.specs.declared.Found.{Found}
 use Rattle.monitor3_tongzhu.specs.Layout.{foundAt}
-use Rattle.records_tongzhu.specs.Replies.{answerIn}
+use Rattle.payloads_tongzhu.specs.Payloads.{answerIn}
 use Rattle.exports_answers.proofs.Telling.{told-numbers, told-refused}
 use Rattle.exports_tongzhu.specs.Replies.{toldIn}
 use borrow.Author.Needs.{needs}

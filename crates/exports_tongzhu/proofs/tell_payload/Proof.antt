@@ -6,8 +6,9 @@ use mathlib.Core.List.{List}
 use lib.ListN.{length}
 use Rattle.frames_tongzhu.specs.Functions.{kindOf}
 use Rattle.monitor3_tongzhu.specs.Layout.{foundAt}
-use Rattle.records_tongzhu.specs.declared.Answer.{Answer}
-use Rattle.records_tongzhu.specs.Replies.{answerIn, payloadOf, answerTo}
+use Rattle.payloads_tongzhu.specs.declared.Answer.{Answer}
+use Rattle.payloads_tongzhu.specs.Payloads.{answerIn, payloadOf}
+use Rattle.records_tongzhu.specs.Replies.{answerTo}
 use Rattle.exports_answers.specs.Told.{codeOf, rowAfter}
 use Rattle.exports_tongzhu.specs.Replies.{toldIn}
 use borrow.Author.Needs.{needs}

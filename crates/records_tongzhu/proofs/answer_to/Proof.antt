@@ -2,8 +2,9 @@
 -- Assumes nothing.
 use mathlib.Core.Path.{_≡_, sym, ap, _∙_}
 use borrow.Author.Needs.{needs}
-use Rattle.records_tongzhu.specs.declared.Sort.{Sort}
 use Rattle.frames_tongzhu.specs.Functions.{kindOf}
+use Rattle.payloads_tongzhu.specs.declared.Answer.the-variants as is
+use Rattle.records_tongzhu.specs.declared.Sort.{Sort}
 use Rattle.records_tongzhu.specs.Replies.{listed, answerTo}
 use Rattle.records_tongzhu.proofs.Answers.{bySort, by-sort}
 use Rattle.records_tongzhu.proofs.answer_to.Statement.{statement}
@@ -29,8 +30,8 @@ sorted c s e =
 enum-told : tie.Need-enum-told
 enum-told c = search needs
 
-payload-of-requires : tie.Need-payload-of-requires
-payload-of-requires c κs = search needs
+read-payload-requires : tie.Need-read-payload-requires
+read-payload-requires c κs = search needs
 
 enum-told-2 : tie.Need-enum-told-2
 enum-told-2 c = search needs
@@ -41,17 +42,17 @@ error-in-requires c κs = search needs
 enum-told-3 : tie.Need-enum-told-3
 enum-told-3 c = search needs
 
-refused-requires : tie.Need-refused-requires
-refused-requires c κs = search needs
+refuse-requires : tie.Need-refuse-requires
+refuse-requires c κs = search needs
 
 returns : tie.Need-returns
-returns c = c .payload-of .ensures ∙ sorted (c .before .before .before) _ (c .before .enum-told .given .1)
+returns c = c .read-payload .ensures ∙ sorted (c .before .before .before) _ (c .before .enum-told .given .1)
 
 returns-2 : tie.Need-returns-2
 returns-2 c = c .error-in .ensures ∙ sorted (c .before .before .before) _ (c .before .enum-told2 .given .1)
 
 returns-3 : tie.Need-returns-3
-returns-3 c = c .refused .ensures ∙ sorted (c .before .before .before) _ (c .before .enum-told3 .given .1)
+returns-3 c = ap is.Refused (c .refuse .ensures) ∙ sorted (c .before .before .before) _ (c .before .enum-told3 .given .1)
 
 pub answer-to-spec : {M : Type 1} → statement M
 answer-to-spec =
@@ -61,11 +62,11 @@ answer-to-spec =
     is-listed-requires
     sort-of-requires
     enum-told
-    payload-of-requires
+    read-payload-requires
     enum-told-2
     error-in-requires
     enum-told-3
-    refused-requires
+    refuse-requires
     returns
     returns-2
     returns-3)

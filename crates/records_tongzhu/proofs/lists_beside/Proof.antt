@@ -1,7 +1,7 @@
 -- `records_tongzhu::lists_beside` meets its contract: a monitor 3 has the lists of its payload, any other answer none.
 -- Assumes nothing.
 use mathlib.Core.Path.{sym, ap, _∙_}
-use Rattle.records_tongzhu.specs.declared.Answer.{Answer}
+use Rattle.payloads_tongzhu.specs.declared.Answer.{Answer}
 use Rattle.records_tongzhu.specs.Replies.{listsBeside}
 use Rattle.records_tongzhu.proofs.Answers.{no-lists-beside}
 use borrow.Author.Needs.{needs}

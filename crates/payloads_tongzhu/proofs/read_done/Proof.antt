@@ -1,12 +1,12 @@
--- `records_tongzhu::read_done` meets its contract: by the size of the payload, then by its byte.
+-- `payloads_tongzhu::read_done` meets its contract: by the size of the payload, then by its byte.
 -- Assumes nothing.
 use mathlib.Core.Path.{sym, ap, _∙_}
 use borrow.Author.Needs.{needs}
-use Rattle.records_tongzhu.proofs.Answers.{wrong-size, right-size, neither}
-use Rattle.records_tongzhu.specs.Replies.{doneOf}
-use Rattle.records_tongzhu.specs.declared.Answer.the-variants as is
-use Rattle.records_tongzhu.proofs.read_done.Statement.{statement}
-use Rattle.records_tongzhu.proofs.read_done.Tie as tie
+use Rattle.payloads_tongzhu.proofs.Payloads.{wrong-size, right-size, neither}
+use Rattle.payloads_tongzhu.specs.Payloads.{doneOf}
+use Rattle.payloads_tongzhu.specs.declared.Answer.the-variants as is
+use Rattle.payloads_tongzhu.proofs.read_done.Statement.{statement}
+use Rattle.payloads_tongzhu.proofs.read_done.Tie as tie
 
 refuse-requires : tie.Need-refuse-requires
 refuse-requires c κs = search needs

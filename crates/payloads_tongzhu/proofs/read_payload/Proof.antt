@@ -1,11 +1,11 @@
--- `records_tongzhu::payload_of` meets its contract: each arm has the function's number, at which the definition computes to that arm's
+-- `payloads_tongzhu::read_payload` meets its contract: each arm has the function's number, at which the definition computes to that arm's
 -- reading.
 -- Assumes nothing.
 use borrow.Author.Needs.{needs}
 use borrow.Author.Tests.{ne-eqb}
-use Rattle.records_tongzhu.specs.Replies.{payloadOf}
-use Rattle.records_tongzhu.proofs.payload_of.Statement.{statement}
-use Rattle.records_tongzhu.proofs.payload_of.Tie as tie
+use Rattle.payloads_tongzhu.specs.Payloads.{payloadOf}
+use Rattle.payloads_tongzhu.proofs.read_payload.Statement.{statement}
+use Rattle.payloads_tongzhu.proofs.read_payload.Tie as tie
 
 read-monitor2-requires : tie.Need-read-monitor2-requires
 read-monitor2-requires c κs = search needs
@@ -22,8 +22,8 @@ read-current-requires c κs = search needs
 read-done-requires : tie.Need-read-done-requires
 read-done-requires c κs = search needs
 
-refused-requires : tie.Need-refused-requires
-refused-requires c κs = search needs
+refuse-requires : tie.Need-refuse-requires
+refuse-requires c κs = search needs
 
 returns : tie.Need-returns
 unfolding payloadOf
@@ -55,11 +55,11 @@ returns-6 c =
       ne-eqb _ _ (n .0 .0 .1),
       ne-eqb _ _ (n .0 .1),
       ne-eqb _ _ (n .1),
-      c .refused .ensures,
+      c .refuse .ensures,
     )
 
-pub payload-of-spec : {M : Type 1} → statement M
-payload-of-spec =
+pub read-payload-spec : {M : Type 1} → statement M
+read-payload-spec =
     tie.close
     (tie.spec
     read-monitor2-requires
@@ -67,7 +67,7 @@ payload-of-spec =
     read-status-requires
     read-current-requires
     read-done-requires
-    refused-requires
+    refuse-requires
     returns
     returns-2
     returns-3

@@ -1,13 +1,13 @@
--- `records_tongzhu::monitor2_of` meets its contract: the record put together from what the calls give.
+-- `payloads_tongzhu::monitor2_of` meets its contract: the record put together from what the calls give.
 -- Assumes nothing.
 use mathlib.Core.Path.{refl, ap, _∙_}
 use borrow.Author.Needs.{needs}
 use mir.Syntax.{w8, w16}
 use mir.ValLaws.{toZ-ofZ}
 use Rattle.signs.specs.Signed.{signedOf}
-use Rattle.records_tongzhu.proofs.Answers.{monitor2-is}
-use Rattle.records_tongzhu.proofs.monitor2_of.Statement.{statement}
-use Rattle.records_tongzhu.proofs.monitor2_of.Tie as tie
+use Rattle.payloads_tongzhu.proofs.Payloads.{monitor2-is}
+use Rattle.payloads_tongzhu.proofs.monitor2_of.Statement.{statement}
+use Rattle.payloads_tongzhu.proofs.monitor2_of.Tie as tie
 
 status-of-requires : tie.Need-status-of-requires
 status-of-requires c κs = search needs

@@ -1,10 +1,10 @@
--- `records_tongzhu::read_monitor3` meets its contract: what the fields' reader found, as an answer.
+-- `payloads_tongzhu::read_monitor3` meets its contract: what the fields' reader found, as an answer.
 -- Assumes nothing.
 use mathlib.Core.Path.{sym, ap, _∙_}
-use Rattle.records_tongzhu.specs.Replies.{answerIn}
+use Rattle.payloads_tongzhu.specs.Payloads.{answerIn}
 use borrow.Author.Needs.{needs}
-use Rattle.records_tongzhu.proofs.read_monitor3.Statement.{statement}
-use Rattle.records_tongzhu.proofs.read_monitor3.Tie as tie
+use Rattle.payloads_tongzhu.proofs.read_monitor3.Statement.{statement}
+use Rattle.payloads_tongzhu.proofs.read_monitor3.Tie as tie
 
 read-numbers-requires : tie.Need-read-numbers-requires
 read-numbers-requires c κs = search needs
