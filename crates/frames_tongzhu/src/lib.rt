@@ -1,5 +1,5 @@
 // Tongzhu frames (002, 4; 01, Tongzhu): 7F, 10, 02, LEN, FUN, MSG, check. LEN counts the whole frame, 6 to 255, and all bytes
-// with the check sum to 0 modulo 256. `frames_written_tongzhu` writes them. Also which functions there are.
+// with the check sum to 0 modulo 256. `frames_written_tongzhu` writes them.
 use refusals::Refusal;
 use refusals::refuse;
 use sums::sum256;
@@ -7,29 +7,7 @@ ghost use mathlib.Core.Path.{_≡_};
 ghost use mathlib.Core.Bool.{_&&_};
 ghost use lib.Dec.{eqb};
 ghost use Rattle.refusals.specs.Refused.{refusedWith};
-ghost use Rattle.frames_tongzhu.specs.Functions.{kindOf};
 ghost use Rattle.frames_tongzhu.specs.Reading.{frameOf};
-
-// What a function is asked for.
-pub enum Kind {
-    // 11, 12, 14, 15: it reads something, and its request has no payload.
-    Reads,
-    // 30: it sets the time.
-    Sets,
-    // Any other.
-    Unlisted,
-}
-
-// The functions of document 01.
-pub fn kind_of(function: u8) -> Kind
-    ensures { λ r. ⌜ r ≡ kindOf function ⌝ }
-{
-    match function {
-        0x11 | 0x12 | 0x14 | 0x15 => Kind::Reads,
-        0x30 => Kind::Sets,
-        _ => Kind::Unlisted,
-    }
-}
 
 // What the input is.
 pub enum Frame {

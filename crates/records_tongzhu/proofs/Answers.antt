@@ -13,9 +13,9 @@ use denote.Enum.Declared.{tagOf}
 use Rattle.laws.specs.Choice.{pick}
 use Rattle.refusals.specs.declared.Refusal.{Refusal}
 use Rattle.refusals.specs.Refused.{request}
-use Rattle.frames_tongzhu.specs.declared.Kind.{Kind}
-use Rattle.frames_tongzhu.specs.declared.Kind.the-variants.{Reads, Sets, Unlisted}
-use Rattle.frames_tongzhu.specs.Functions.{kindOf}
+use Rattle.functions_tongzhu.specs.declared.Kind.{Kind}
+use Rattle.functions_tongzhu.specs.declared.Kind.the-variants.{Reads, Sets, Unlisted}
+use Rattle.functions_tongzhu.specs.Functions.{kindOf}
 use Rattle.frames_tongzhu.specs.declared.Frame.the-variants.{Whole, Refused as NoFrame}
 use Rattle.frames_tongzhu.specs.Reading.{frameOf}
 use Rattle.frames_tongzhu.proofs.Ladder.{payload-part}

@@ -8,9 +8,9 @@ use lib.ListN.{take, drop}
 use lib.Dec.{eqb}
 use Rattle.laws.specs.Choice.{pick}
 use Rattle.refusals.specs.Refused.{request}
-use Rattle.frames_tongzhu.specs.declared.Kind.{Kind}
-use Rattle.frames_tongzhu.specs.declared.Kind.the-variants.{Reads, Sets, Unlisted}
-use Rattle.frames_tongzhu.specs.Functions.{kindOf}
+use Rattle.functions_tongzhu.specs.declared.Kind.{Kind}
+use Rattle.functions_tongzhu.specs.declared.Kind.the-variants.{Reads, Sets, Unlisted}
+use Rattle.functions_tongzhu.specs.Functions.{kindOf}
 use Rattle.frames_tongzhu.specs.declared.Frame.{Frame}
 use Rattle.frames_tongzhu.specs.declared.Frame.the-variants.{Whole, Refused as NoFrame}
 use Rattle.frames_tongzhu.specs.Reading.{frameOf}

@@ -3,9 +3,9 @@
 use arrays_tongzhu::no_lists;
 use arrays_tongzhu::read_lists;
 use frames_tongzhu::Frame;
-use frames_tongzhu::Kind;
-use frames_tongzhu::kind_of;
 use frames_tongzhu::read_frame;
+use functions_tongzhu::Kind;
+use functions_tongzhu::kind_of;
 use monitor3_tongzhu::Lists;
 use payloads_tongzhu::Answer;
 use payloads_tongzhu::read_payload;

@@ -7,10 +7,10 @@ use borrow.Author.Tests.{eq-eqb, ne-eqb}
 use lib.ListN.{length, take, drop}
 use Rattle.refusals.specs.declared.Refusal.{Refusal}
 use Rattle.refusals.specs.Refused.{refusedWith, request, shape}
-use Rattle.frames_tongzhu.specs.declared.Kind.{Kind}
-use Rattle.frames_tongzhu.specs.declared.Kind.the-variants.{Reads, Sets, Unlisted}
+use Rattle.functions_tongzhu.specs.declared.Kind.{Kind}
+use Rattle.functions_tongzhu.specs.declared.Kind.the-variants.{Reads, Sets, Unlisted}
 use Rattle.frames_tongzhu.specs.declared.Frame.the-variants.{Whole, Refused as NoFrame}
-use Rattle.frames_tongzhu.specs.Functions.{kindOf}
+use Rattle.functions_tongzhu.specs.Functions.{kindOf}
 use Rattle.frames_tongzhu.specs.Reading.{frameOf}
 use Rattle.frames_tongzhu.proofs.Ladder.{payload-part}
 use Rattle.requests_tongzhu.specs.declared.Request.the-variants.{Ask}

@@ -17,14 +17,14 @@ use Rattle.refusals.specs.declared.Written.the-variants.{Frame}
 use Rattle.refusals.specs.Refused.{range}
 use Rattle.refusals.specs.Writing.{roomAfter}
 use Rattle.refusals.proofs.Writing.{fits, frame-says, front-is-frame}
-use Rattle.frames_tongzhu.specs.declared.Kind.{Kind}
-use Rattle.frames_tongzhu.specs.declared.Kind.the-variants.{Reads, Sets, Unlisted}
+use Rattle.functions_tongzhu.specs.declared.Kind.{Kind}
+use Rattle.functions_tongzhu.specs.declared.Kind.the-variants.{Reads, Sets, Unlisted}
 use Rattle.frames_tongzhu.specs.declared.Frame.{Frame as Framed}
 use Rattle.frames_tongzhu.specs.declared.Frame.the-variants.{Whole, Refused as NoFrame}
-use Rattle.frames_tongzhu.specs.Functions.{kindOf}
+use Rattle.functions_tongzhu.specs.Functions.{kindOf}
 use Rattle.frames_tongzhu.specs.Reading.{frameOf}
 use Rattle.frames_written_tongzhu.specs.Writing.{frameBytes}
-use Rattle.frames_tongzhu.proofs.Listed.{only-setting}
+use Rattle.functions_tongzhu.proofs.Listed.{only-setting}
 use Rattle.frames_written_tongzhu.proofs.ReadBack.{frame-reads-back, payload-back, frame-writes-back}
 use Rattle.requests_tongzhu.specs.declared.Request.{Request}
 use Rattle.requests_tongzhu.specs.declared.Request.the-variants.{Ask, SetTime}

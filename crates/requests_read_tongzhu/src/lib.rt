@@ -1,8 +1,8 @@
 // Tongzhu requests read (002, 6; 01, Tongzhu): which request a frame is. `requests_tongzhu` writes them.
 use frames_tongzhu::Frame;
-use frames_tongzhu::Kind;
-use frames_tongzhu::kind_of;
 use frames_tongzhu::read_frame;
+use functions_tongzhu::Kind;
+use functions_tongzhu::kind_of;
 use refusals::Refusal;
 use refusals::refuse;
 use requests_tongzhu::Request;

@@ -14,8 +14,8 @@ use Rattle.refusals.specs.Refused.{refusedWith, range}
 use Rattle.refusals.specs.Writing.{writtenAs}
 use Rattle.orders.specs.Orders.{writing}
 use Rattle.orders.proofs.Answers as orders
-use Rattle.frames_tongzhu.specs.declared.Kind.{Kind}
-use Rattle.frames_tongzhu.specs.Functions.{kindOf}
+use Rattle.functions_tongzhu.specs.declared.Kind.{Kind}
+use Rattle.functions_tongzhu.specs.Functions.{kindOf}
 use Rattle.frames_written_tongzhu.specs.Writing.{begun, sealed}
 use Rattle.frames_written_tongzhu.proofs.Writers.{frame-made, frame-length}
 use Rattle.times_tongzhu.specs.declared.Time.{Time}

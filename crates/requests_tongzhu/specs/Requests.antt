@@ -7,9 +7,9 @@ use Rattle.laws.specs.Choice.{pick}
 use Rattle.refusals.specs.declared.Written.{Written}
 use Rattle.refusals.specs.Refused.{request, shape, range}
 use Rattle.refusals.specs.Writing.{writtenAs}
-use Rattle.frames_tongzhu.specs.declared.Kind.{Kind}
-use Rattle.frames_tongzhu.specs.declared.Kind.the-variants.{Reads, Sets, Unlisted}
-use Rattle.frames_tongzhu.specs.Functions.{kindOf}
+use Rattle.functions_tongzhu.specs.declared.Kind.{Kind}
+use Rattle.functions_tongzhu.specs.declared.Kind.the-variants.{Reads, Sets, Unlisted}
+use Rattle.functions_tongzhu.specs.Functions.{kindOf}
 use Rattle.frames_written_tongzhu.specs.Writing.{frameBytes}
 use Rattle.times_tongzhu.specs.Times.{real, timeBytes}
 use Rattle.requests_tongzhu.specs.declared.Request.{Request}

@@ -1,9 +1,9 @@
 // Tongzhu requests (002, 6; 01, Tongzhu), written as frames: functions 11, 12, 14 and 15 ask without a payload, 30 sets the time.
 // `requests_read_tongzhu` reads them.
-use frames_tongzhu::Kind;
-use frames_tongzhu::kind_of;
 use frames_written_tongzhu::begin;
 use frames_written_tongzhu::seal;
+use functions_tongzhu::Kind;
+use functions_tongzhu::kind_of;
 use orders::writing;
 use refusals::Written;
 use refusals::refuse;

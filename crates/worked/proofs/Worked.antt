@@ -8,7 +8,7 @@ use Rattle.sums.specs.Sums.{total}
 use Rattle.lengths_pace.specs.Lengths.{wordOf}
 use Rattle.bcd.specs.Decimal.{bcdByte}
 use Rattle.calendar.specs.Dates.{leap, days, daysIn, realDate, realTime}
-use Rattle.frames_tongzhu.specs.Functions.{kindOf}
+use Rattle.functions_tongzhu.specs.Functions.{kindOf}
 use Rattle.frames_written_tongzhu.specs.Writing.{frameBytes}
 use Rattle.requests_tongzhu.specs.Requests.{faultOf}
 use Rattle.characters_pace.specs.Characters.{allOf, halves}

@@ -4,7 +4,7 @@ use Prim.Native.Nat.{ℕ}
 use mathlib.Core.Path.{_≡_, ap, _∙_}
 use mathlib.Core.List.{List}
 use lib.ListN.{length}
-use Rattle.frames_tongzhu.specs.Functions.{kindOf}
+use Rattle.functions_tongzhu.specs.Functions.{kindOf}
 use Rattle.monitor3_tongzhu.specs.Layout.{foundAt}
 use Rattle.payloads_tongzhu.specs.declared.Answer.{Answer}
 use Rattle.payloads_tongzhu.specs.Payloads.{answerIn, payloadOf}

@@ -2,7 +2,7 @@
 -- Assumes nothing.
 use mathlib.Core.Path.{_≡_, sym, ap, _∙_}
 use borrow.Author.Needs.{needs}
-use Rattle.frames_tongzhu.specs.Functions.{kindOf}
+use Rattle.functions_tongzhu.specs.Functions.{kindOf}
 use Rattle.payloads_tongzhu.specs.declared.Answer.the-variants as is
 use Rattle.records_tongzhu.specs.declared.Sort.{Sort}
 use Rattle.records_tongzhu.specs.Replies.{listed, answerTo}

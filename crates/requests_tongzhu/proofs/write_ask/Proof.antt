@@ -4,7 +4,7 @@ use mathlib.Core.Path.{refl, sym, _∙_}
 use native.Mathlib.Omega.{arith}
 use Rattle.refusals.specs.Refused.{request, shape}
 use Rattle.refusals.proofs.Writing.{faulty}
-use Rattle.frames_tongzhu.specs.declared.Kind.the-variants.{Reads, Sets, Unlisted}
+use Rattle.functions_tongzhu.specs.declared.Kind.the-variants.{Reads, Sets, Unlisted}
 use Rattle.requests_tongzhu.specs.declared.Request.the-variants.{Ask}
 use Rattle.requests_tongzhu.proofs.Made.{sent, ask-fault}
 use borrow.Author.Needs.{needs}

@@ -8,9 +8,9 @@ use native.Mathlib.Nat.{eq-or-lt-of-le}
 use native.Mathlib.Omega.{arith}
 use borrow.Author.Tests.{ne-eqb, eqb-true}
 use Rattle.laws.proofs.Ladders.{past, into}
-use Rattle.frames_tongzhu.specs.declared.Kind.{Kind}
-use Rattle.frames_tongzhu.specs.declared.Kind.the-variants.{Reads, Sets, Unlisted}
-use Rattle.frames_tongzhu.specs.Functions.{reading, setting, kindOf}
+use Rattle.functions_tongzhu.specs.declared.Kind.{Kind}
+use Rattle.functions_tongzhu.specs.declared.Kind.the-variants.{Reads, Sets, Unlisted}
+use Rattle.functions_tongzhu.specs.Functions.{reading, setting, kindOf}
 
 pub two : (a f : ℕ) (k : Kind) → k ≡ kindOf a → k ≡ kindOf (a + 1) → a ≤ f → f < a + 2 → k ≡ kindOf f
 two a f k first second low high =

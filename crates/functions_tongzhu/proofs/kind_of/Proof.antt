@@ -1,12 +1,12 @@
--- `frames_tongzhu::kind_of` meets its contract: each way out of the `match` is a law of the list of functions.
+-- `functions_tongzhu::kind_of` meets its contract: each way out of the `match` is a law of the list of functions.
 -- Assumes nothing.
 use mathlib.Core.Path.{refl, sym, ap}
 use native.Mathlib.Omega.{arith}
-use Rattle.frames_tongzhu.proofs.Listed.{two, unlisted}
-use Rattle.frames_tongzhu.specs.Functions.{kindOf}
-use Rattle.frames_tongzhu.specs.declared.Kind.the-variants.{Reads}
-use Rattle.frames_tongzhu.proofs.kind_of.Statement.{statement}
-use Rattle.frames_tongzhu.proofs.kind_of.Tie as tie
+use Rattle.functions_tongzhu.proofs.Listed.{two, unlisted}
+use Rattle.functions_tongzhu.specs.Functions.{kindOf}
+use Rattle.functions_tongzhu.specs.declared.Kind.the-variants.{Reads}
+use Rattle.functions_tongzhu.proofs.kind_of.Statement.{statement}
+use Rattle.functions_tongzhu.proofs.kind_of.Tie as tie
 
 returns : tie.Need-returns
 unfolding kindOf
