@@ -7,7 +7,7 @@ use lengths_pace::Length;
 use lengths_pace::length_word;
 use lists_written_pace::put_hex;
 use numbers::Order;
-use numbers::bytes16;
+use numbers_written::bytes16;
 use refusals::Written;
 use refusals::refuse;
 use sums::close65536;

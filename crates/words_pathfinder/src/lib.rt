@@ -1,7 +1,7 @@
 // Words on the wire: signed 32-bit numbers in four bytes each, the low one first (000, Serial message format), one by one and in rows.
 use numbers::Order;
-use numbers::bytes32;
 use numbers::number32;
+use numbers_written::bytes32;
 use signs::bits32;
 use signs::signed32;
 ghost use mathlib.Core.Path.{_≡_};

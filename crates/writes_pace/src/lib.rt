@@ -4,7 +4,7 @@ use commands_pace::Setting;
 use commands_pace::Values;
 use commands_pace::layout_of;
 use numbers::Order;
-use numbers::bytes16;
+use numbers_written::bytes16;
 ghost use mathlib.Core.Path.{_≡_};
 ghost use mathlib.Core.List.{_++_};
 ghost use Prim.Native.Nat.{_*_, _<_};
