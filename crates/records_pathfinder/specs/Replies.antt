@@ -10,7 +10,7 @@ use Rattle.refusals.specs.Refused.{refusedWith, request, shape, room}
 use Rattle.frames_pathfinder.specs.declared.Frame.{Frame}
 use Rattle.frames_pathfinder.specs.declared.Frame.the-variants.{Whole, Refused as NoFrame}
 use Rattle.frames_pathfinder.specs.Reading.{frameOf}
-use Rattle.words_pathfinder.specs.Words.{words}
+use Rattle.lists_pathfinder.specs.Lists.{words}
 use Rattle.opcodes_pathfinder.specs.declared.Kind.{Kind}
 use Rattle.opcodes_pathfinder.specs.declared.Kind.the-variants.{Failure as Fails, Asked, Other}
 use Rattle.opcodes_pathfinder.specs.declared.Shape.{Shape}

@@ -2,20 +2,20 @@
 // device's own failure.
 use frames_pathfinder::Frame;
 use frames_pathfinder::read_frame;
+use lists_pathfinder::read_words;
 use opcodes_pathfinder::Kind;
 use opcodes_pathfinder::Shape;
 use opcodes_pathfinder::kind_of;
 use opcodes_pathfinder::shape_of;
 use refusals::Refusal;
 use refusals::refuse;
-use words_pathfinder::read_words;
 ghost use mathlib.Core.Path.{_≡_};
 ghost use mathlib.Core.List.{_++_};
 ghost use Prim.Native.Nat.{_*_, _≤_};
 ghost use lib.Dec.{eqb};
 ghost use lib.ListN.{length, drop};
 ghost use Rattle.refusals.specs.Refused.{refusedWith};
-ghost use Rattle.words_pathfinder.specs.Words.{words};
+ghost use Rattle.lists_pathfinder.specs.Lists.{words};
 ghost use Rattle.records_pathfinder.specs.Replies.{wordsJudged, shaped, judged, replyOf, rowAfter, nameAfter};
 
 // What a reply says.

@@ -7,9 +7,9 @@ use native.Mathlib.Omega.{arith}
 use lib.ListN.{length, take, drop, length-append, length-drop}
 use lib.Seq.{take-at, drop-at, length-take-le}
 use borrow.Rule.Slice.PartMut.{putMid}
-use Rattle.words_pathfinder.specs.Words.{bytesOfWords, bytesPut}
-use Rattle.words_pathfinder.proofs.Bytes.{bytes-length}
-use Rattle.words_pathfinder.proofs.Rows.{part-put-whole}
+use Rattle.lists_pathfinder.specs.Lists.{bytesOfWords, bytesPut}
+use Rattle.lists_pathfinder.proofs.Bytes.{bytes-length}
+use Rattle.lists_pathfinder.proofs.Rows.{part-put-whole}
 use Rattle.restore_jobs.specs.declared.Job.{Job}
 use Rattle.restore_bytes.specs.Jobs.{phaseBytes, jobBytes}
 

@@ -6,7 +6,7 @@ use mathlib.Core.List.{List}
 use Prim.Native.Nat.{ℕ}
 use lib.IntN.{ℤ}
 use lib.ListN.{getD, take, drop}
-use Rattle.words_pathfinder.specs.Words.{words}
+use Rattle.lists_pathfinder.specs.Lists.{words}
 use Rattle.restore_jobs.specs.declared.Phase.{Phase}
 use Rattle.restore_jobs.specs.declared.Job.{Job}
 use Rattle.restore_bytes.specs.Jobs.{phaseIn, sized, jobOf}

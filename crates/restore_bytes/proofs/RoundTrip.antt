@@ -10,9 +10,9 @@ use lib.Dec.{leb}
 use lib.IntN.{ℤ}
 use lib.ListN.{length, getD, take, drop, length-append}
 use lib.Seq.{take-at, drop-at, getD-at, getD-append-add}
-use Rattle.words_pathfinder.specs.Words.{words, bytesOfWords}
-use Rattle.words_pathfinder.proofs.Bytes.{bytes-length}
-use Rattle.words_pathfinder.proofs.RoundTrip.{Fitting, words-back}
+use Rattle.lists_pathfinder.specs.Lists.{words, bytesOfWords}
+use Rattle.lists_pathfinder.proofs.Bytes.{bytes-length}
+use Rattle.lists_pathfinder.proofs.RoundTrip.{Fitting, words-back}
 use Rattle.restore_jobs.specs.declared.Phase.{Phase}
 use Rattle.restore_jobs.specs.declared.Phase.the-variants.{Ready, Waiting, Stopped}
 use Rattle.restore_jobs.specs.declared.Job.{Job}

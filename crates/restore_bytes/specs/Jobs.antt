@@ -8,7 +8,7 @@ use lib.Dec.{leb, eqb}
 use lib.ListN.{length, getD, take, drop}
 use Rattle.laws.specs.Choice.{pick}
 use Rattle.refusals.specs.Refused.{shape}
-use Rattle.words_pathfinder.specs.Words.{words, bytesOfWords}
+use Rattle.lists_pathfinder.specs.Lists.{words, bytesOfWords}
 use Rattle.restore_order.specs.Slots.{writes, slots}
 use Rattle.restore_jobs.specs.declared.Phase.{Phase}
 use Rattle.restore_jobs.specs.declared.Phase.the-variants.{Ready, Waiting, Stopped}

@@ -1,11 +1,11 @@
 // A restore's job in 262 bytes, for who keeps it where no struct can stand (docs/DECISIONS.md, C and Rust): judged, read and written.
 // `specs/Jobs.antt` says how a job stands in its bytes.
+use lists_pathfinder::put_words;
+use lists_pathfinder::read_words;
 use restore_jobs::Job;
 use restore_jobs::Phase;
 use restore_rules::First;
 use restore_rules::first_write;
-use words_pathfinder::put_words;
-use words_pathfinder::read_words;
 ghost use mathlib.Core.Path.{_≡_};
 ghost use mathlib.Core.List.{_++_};
 ghost use lib.ListN.{length, take};

@@ -1,6 +1,6 @@
 -- `records_pathfinder::fill` meets its contract: the front of the row, lent to who reads words.
 -- Assumes nothing.
-use Rattle.words_pathfinder.proofs.Rows.{front-read}
+use Rattle.lists_pathfinder.proofs.Rows.{front-read}
 use borrow.Author.Needs.{needs}
 use Rattle.records_pathfinder.proofs.fill.Statement.{statement}
 use Rattle.records_pathfinder.proofs.fill.Tie as tie

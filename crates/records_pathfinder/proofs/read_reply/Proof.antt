@@ -9,7 +9,7 @@ use lib.ListN.{drop}
 use Rattle.frames_pathfinder.specs.declared.Frame.the-variants.{Whole}
 use Rattle.frames_pathfinder.specs.Reading.{frameOf}
 use Rattle.frames_pathfinder.proofs.Ladder.{whole-parts}
-use Rattle.words_pathfinder.specs.Words.{words}
+use Rattle.lists_pathfinder.specs.Lists.{words}
 use Rattle.records_pathfinder.proofs.Answers.{reply-refused, reply-whole, words-fit, name-fit}
 use Rattle.records_pathfinder.proofs.Filled.{part-payload, name-copied}
 use borrow.Author.Needs.{needs}

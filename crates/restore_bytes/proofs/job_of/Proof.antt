@@ -6,7 +6,7 @@ use lib.IntN.{pos}
 use lib.ListN.{length, take, drop, replicate, length-drop}
 use lib.Seq.{length-take-le}
 use borrow.Author.Tests.{eq-eqb, ne-eqb}
-use Rattle.words_pathfinder.proofs.Rows.{row-read}
+use Rattle.lists_pathfinder.proofs.Rows.{row-read}
 use Rattle.restore_bytes.specs.Jobs.{jobOf}
 use Rattle.restore_bytes.proofs.Held.{job-is}
 use borrow.Author.Needs.{needs}

@@ -1,4 +1,4 @@
--- `words_pathfinder::fill` meets its contract. The loop's invariant: the words so far stand in front of what was there past them.
+-- `lists_pathfinder::fill` meets its contract. The loop's invariant: the words so far stand in front of what was there past them.
 -- Assumes nothing.
 use Prim.Native.Nat.{_+_, _-_, _≤_}
 use mathlib.Core.Path.{_≡_, refl, _∙_}
@@ -9,10 +9,10 @@ use mir.Syntax.{w32}
 use mir.Val.{toZ, ofZ}
 use Rattle.laws.specs.Firsts.{firsts}
 use Rattle.laws.proofs.Firsts.{firsts-more, firsts-all}
-use Rattle.words_pathfinder.specs.Words.{wordAt, words}
+use Rattle.lists_pathfinder.specs.Lists.{wordAt, words}
 use borrow.Author.Needs.{needs}
-use Rattle.words_pathfinder.proofs.fill.Statement.{statement}
-use Rattle.words_pathfinder.proofs.fill.Tie as tie
+use Rattle.lists_pathfinder.proofs.fill.Statement.{statement}
+use Rattle.lists_pathfinder.proofs.fill.Tie as tie
 
 abbrev Inv-loop : tie.InvT-loop
 Inv-loop s row₀ i₀ row i = (i ≤ length row₀) × (row ≡ words i s ++ drop i row₀) × (length row ≡ length row₀)

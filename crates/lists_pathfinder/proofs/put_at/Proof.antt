@@ -1,13 +1,13 @@
--- `words_pathfinder::put_at` meets its contract: a copy of four bytes fills the part.
+-- `lists_pathfinder::put_at` meets its contract: a copy of four bytes fills the part.
 -- Assumes nothing.
 use mathlib.Core.Path.{_≡_, ap, _∙_}
 use mir.Syntax.{w32}
 use mir.ValLaws.{toZ-ofZ}
 use Rattle.words_pathfinder.specs.Words.{bytesOfWord}
-use Rattle.words_pathfinder.proofs.Bytes.{copied, part-put}
+use Rattle.lists_pathfinder.proofs.Bytes.{copied, part-put}
 use borrow.Author.Needs.{needs}
-use Rattle.words_pathfinder.proofs.put_at.Statement.{statement}
-use Rattle.words_pathfinder.proofs.put_at.Tie as tie
+use Rattle.lists_pathfinder.proofs.put_at.Statement.{statement}
+use Rattle.lists_pathfinder.proofs.put_at.Tie as tie
 
 word-bytes-requires : tie.Need-word-bytes-requires
 word-bytes-requires c κs = search needs

@@ -10,7 +10,7 @@ use lib.IntN.{ℤ}
 use lib.ListN.{length, take, drop, drop-of-length-le}
 use Rattle.laws.proofs.Filling.{front-length}
 use Rattle.laws.proofs.Firsts.{firsts-front}
-use Rattle.words_pathfinder.specs.Words.{wordAt, words, rowRead, bytesOfWords, bytesPut}
+use Rattle.lists_pathfinder.specs.Lists.{wordAt, words, rowRead, bytesOfWords, bytesPut}
 
 pub row-read : (s : List ℕ) (row : List ℤ) → length s ≡ 4 * length row → rowRead s row ≡ words (length row) s
 row-read s row e = rw (eq-eqb (length s) (4 * length row) e)

@@ -1,4 +1,4 @@
--- `words_pathfinder::read_words` meets its contract: bytes that are not four for each place are refused, others fill the row.
+-- `lists_pathfinder::read_words` meets its contract: bytes that are not four for each place are refused, others fill the row.
 -- Assumes nothing.
 use mathlib.Core.Path.{_≡_}
 use Prim.Native.Nat.{_*_}
@@ -6,8 +6,8 @@ use native.Mathlib.Omega.{arith}
 use lib.ListN.{length}
 use borrow.Author.Tests.{eq-eqb, ne-eqb}
 use borrow.Author.Needs.{needs}
-use Rattle.words_pathfinder.proofs.read_words.Statement.{statement}
-use Rattle.words_pathfinder.proofs.read_words.Tie as tie
+use Rattle.lists_pathfinder.proofs.read_words.Statement.{statement}
+use Rattle.lists_pathfinder.proofs.read_words.Tie as tie
 
 returns : tie.Need-returns
 returns c =

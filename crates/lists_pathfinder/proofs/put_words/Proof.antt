@@ -1,4 +1,4 @@
--- `words_pathfinder::put_words` meets its contract: a room that is too small is left, another begins with the words' bytes.
+-- `lists_pathfinder::put_words` meets its contract: a room that is too small is left, another begins with the words' bytes.
 -- Assumes nothing.
 use mathlib.Core.Path.{_≡_}
 use Prim.Native.Nat.{_*_, _<_, _≤_}
@@ -6,8 +6,8 @@ use native.Mathlib.Omega.{arith}
 use lib.ListN.{length}
 use borrow.Author.Tests.{lt-ltb, le-ltb}
 use borrow.Author.Needs.{needs}
-use Rattle.words_pathfinder.proofs.put_words.Statement.{statement}
-use Rattle.words_pathfinder.proofs.put_words.Tie as tie
+use Rattle.lists_pathfinder.proofs.put_words.Statement.{statement}
+use Rattle.lists_pathfinder.proofs.put_words.Tie as tie
 
 returns : tie.Need-returns
 returns c =

@@ -1,4 +1,4 @@
--- `words_pathfinder::put_all` meets its contract. The loop's invariant: the words so far stand in front of what was there past them.
+-- `lists_pathfinder::put_all` meets its contract. The loop's invariant: the words so far stand in front of what was there past them.
 -- Assumes nothing.
 use Prim.Native.Nat.{_+_, _-_, _*_, _≤_}
 use mathlib.Core.Path.{_≡_, refl, ap, _∙_}
@@ -9,11 +9,11 @@ use lib.ListN.{length, getD, take, drop}
 use mir.Syntax.{w32}
 use mir.Val.{toZ, ofZ}
 use mir.ValLaws.{toZ-ofZ}
-use Rattle.words_pathfinder.specs.Words.{bytesOfWords, oneAt}
-use Rattle.words_pathfinder.proofs.Bytes.{none-put, one-put, all-put}
+use Rattle.lists_pathfinder.specs.Lists.{bytesOfWords, oneAt}
+use Rattle.lists_pathfinder.proofs.Bytes.{none-put, one-put, all-put}
 use borrow.Author.Needs.{needs}
-use Rattle.words_pathfinder.proofs.put_all.Statement.{statement}
-use Rattle.words_pathfinder.proofs.put_all.Tie as tie
+use Rattle.lists_pathfinder.proofs.put_all.Statement.{statement}
+use Rattle.lists_pathfinder.proofs.put_all.Tie as tie
 
 abbrev Inv-loop : tie.InvT-loop
 Inv-loop row out₀ i₀ out i = (i ≤ length row) × (out ≡ bytesOfWords (take i row) ++ drop (4 * i) out₀) × (length out ≡ length out₀)

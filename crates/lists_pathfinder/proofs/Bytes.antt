@@ -9,7 +9,8 @@ use lib.IntN.{ℤ, pos}
 use lib.ListN.{length, getD, take, drop, length-append, drop-of-length-le}
 use lib.Seq.{take-suc, take-at, drop-at, take-length, length-take-le, drop-drop}
 use borrow.Rule.Slice.PartMut.{putMid}
-use Rattle.words_pathfinder.specs.Words.{bytesOfWord, bytesOfWords, oneAt}
+use Rattle.words_pathfinder.specs.Words.{bytesOfWord}
+use Rattle.lists_pathfinder.specs.Lists.{bytesOfWords, oneAt}
 
 pub bytes-length : (vs : List ℤ) → length (bytesOfWords vs) ≡ 4 * length vs
 unfolding bytesOfWords
