@@ -12,7 +12,7 @@ ghost use lib.ListN.{length, take};
 ghost use Rattle.restore_bytes.specs.Jobs.{phaseBytes, phaseIn, stands, isJob, jobOf, sizeFault, jobAfter};
 
 // How many bytes a job has.
-const JOB: usize = 262;
+pub const JOB: usize = 262;
 
 // Whether the bytes hold a job: so many of them, one of the three phases, and a job that a restore can come to.
 pub fn is_job(b: &[u8]) -> bool
