@@ -7,7 +7,7 @@ use Rattle.restore_jobs.specs.declared.Opening.{Opening}
 use Rattle.restore_jobs.specs.declared.Opening.the-variants as opening
 use Rattle.restore_jobs.specs.declared.Opened.{Opened}
 use Rattle.exports_answers.specs.Told.{codedAs}
-use Rattle.restore_bytes.specs.Jobs.{jobAfter}
+use Rattle.restore_stored.specs.Stored.{jobAfter}
 
 abbrev pub openingCode : Opening → ℕ
 openingCode opening.Accepted = codedAs 1 0

@@ -1,11 +1,11 @@
 // A restore's job for other languages (`rt staticlib exports_jobs`): it lives in bytes that the caller lends, 262 of them, and each call is one of
-// `restore_jobs` on the job in them (`restore_bytes`): a restore opened, and what is left. `specs/Opened.antt` says what open answers.
+// `restore_jobs` on the job in them (`restore_bytes`, `restore_stored`): a restore opened, and what is left. `specs/Opened.antt` says what open answers.
 use exports_answers::coded;
 use restore_bytes::is_job;
 use restore_bytes::job_of;
-use restore_bytes::put_job;
 use restore_jobs::Opened;
 use restore_jobs::Opening;
+use restore_stored::put_job;
 ghost use mathlib.Core.Path.{_≡_};
 ghost use Rattle.laws.specs.Choice.{pick};
 ghost use Rattle.refusals.specs.Refused.{shape};

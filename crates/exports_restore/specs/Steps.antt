@@ -13,7 +13,7 @@ use Rattle.restore_reply.specs.declared.Answer.{Answer}
 use Rattle.restore_reply.specs.declared.Answer.the-variants as answer
 use Rattle.restore_reply.specs.declared.Heard.{Heard}
 use Rattle.exports_answers.specs.Told.{codedAs}
-use Rattle.restore_bytes.specs.Jobs.{jobAfter}
+use Rattle.restore_stored.specs.Stored.{jobAfter}
 
 -- ---- next: 1 a frame of so many bytes, 2 done
 

@@ -1,14 +1,14 @@
 // The restore's calls that speak with the pack, for other languages (`rt staticlib exports_restore`): the job lives in bytes that the caller lends
-// (`restore_bytes`; opened by `exports_jobs`), and each call is `restore_next` or `restore_reply` on the job in them. `specs/Steps.antt` says what each answers.
+// (`restore_bytes`, `restore_stored`; opened by `exports_jobs`), and each call is `restore_next` or `restore_reply` on the job in them. `specs/Steps.antt` says what each answers.
 use exports_answers::coded;
 use restore_bytes::is_job;
 use restore_bytes::job_of;
-use restore_bytes::put_job;
 use restore_next::Step;
 use restore_next::Stepped;
 use restore_reply::Answer;
 use restore_reply::Heard;
 use restore_reply::Outcome;
+use restore_stored::put_job;
 ghost use mathlib.Core.Path.{_≡_};
 ghost use lib.ListN.{length};
 ghost use Rattle.laws.specs.Choice.{pick};

@@ -1,4 +1,4 @@
--- `restore_bytes::put_phase` meets its contract: two stores write what is behind the words.
+-- `restore_stored::put_phase` meets its contract: two stores write what is behind the words.
 -- Assumes nothing.
 use mathlib.Core.Path.{_≡_, ap, _∙_}
 use mathlib.Core.List.{List, _++_, append-nil}
@@ -6,10 +6,10 @@ use Prim.Native.Nat.{ℕ}
 use native.Mathlib.Omega.{arith}
 use lib.ListN.{getD, take, drop-of-length-le}
 use lib.Seq.{sets-eq}
-use Rattle.restore_bytes.specs.Jobs.{phaseBytes}
+use Rattle.restore_stored.specs.Stored.{phaseBytes}
 use borrow.Author.Needs.{needs}
-use Rattle.restore_bytes.proofs.put_phase.Statement.{statement}
-use Rattle.restore_bytes.proofs.put_phase.Tie as tie
+use Rattle.restore_stored.proofs.put_phase.Statement.{statement}
+use Rattle.restore_stored.proofs.put_phase.Tie as tie
 
 phase-bytes-requires : tie.Need-phase-bytes-requires
 phase-bytes-requires c κs = search needs
