@@ -1,12 +1,9 @@
--- What the calls of a restore answer as numbers (exports_answers, specs/Told.antt), and what becomes of the job's bytes: after a refusal, and where
+-- What next and reply answer as numbers (exports_answers, specs/Told.antt), and what becomes of the job's bytes: after a refusal, and where
 -- nothing is left to write, they are as they were.
 -- Assumes nothing.
 use Prim.Native.Nat.{ℕ}
 use mathlib.Core.List.{List}
 use Rattle.restore_jobs.specs.declared.Job.{Job}
-use Rattle.restore_jobs.specs.declared.Opening.{Opening}
-use Rattle.restore_jobs.specs.declared.Opening.the-variants as opening
-use Rattle.restore_jobs.specs.declared.Opened.{Opened}
 use Rattle.restore_next.specs.declared.Step.{Step}
 use Rattle.restore_next.specs.declared.Step.the-variants as step
 use Rattle.restore_next.specs.declared.Stepped.{Stepped}
@@ -16,23 +13,7 @@ use Rattle.restore_reply.specs.declared.Answer.{Answer}
 use Rattle.restore_reply.specs.declared.Answer.the-variants as answer
 use Rattle.restore_reply.specs.declared.Heard.{Heard}
 use Rattle.exports_answers.specs.Told.{codedAs}
-use Rattle.restore_bytes.specs.Jobs.{jobAfter}
-
--- ---- open: 1 opened
-
-abbrev pub openingCode : Opening → ℕ
-openingCode opening.Accepted = codedAs 1 0
-openingCode (opening.Refused why) = why .number
-
-abbrev pub openingJob : Opening → Job → List ℕ → List ℕ
-openingJob opening.Accepted j b = jobAfter j b
-openingJob (opening.Refused why) j b = b
-
-abbrev pub openedCode : Opened → ℕ
-openedCode o = openingCode (o .opening)
-
-abbrev pub openedJob : Opened → List ℕ → List ℕ
-openedJob o b = openingJob (o .opening) (o .job) b
+use Rattle.restore_stored.specs.Stored.{jobAfter}
 
 -- ---- next: 1 a frame of so many bytes, 2 done
 

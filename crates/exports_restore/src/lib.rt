@@ -1,44 +1,25 @@
-// The night restore for other languages (`rt staticlib exports_restore`): the job lives in bytes that the caller lends, 262 of them, and each call
-// is one of `restore_jobs`, `restore_next` or `restore_reply` on the job in them (`restore_bytes`). `specs/Steps.antt` says what each call answers.
+// The restore's calls that speak with the pack, for other languages (`rt staticlib exports_restore`): the job lives in bytes that the caller lends
+// (`restore_bytes`, `restore_stored`; opened by `exports_jobs`), and each call is `restore_next` or `restore_reply` on the job in them. `specs/Steps.antt` says what each answers.
 use exports_answers::coded;
 use restore_bytes::is_job;
 use restore_bytes::job_of;
-use restore_bytes::put_job;
-use restore_jobs::Opened;
-use restore_jobs::Opening;
 use restore_next::Step;
 use restore_next::Stepped;
 use restore_reply::Answer;
 use restore_reply::Heard;
 use restore_reply::Outcome;
+use restore_stored::put_job;
 ghost use mathlib.Core.Path.{_≡_};
 ghost use lib.ListN.{length};
 ghost use Rattle.laws.specs.Choice.{pick};
 ghost use Rattle.refusals.specs.Refused.{shape};
-ghost use Rattle.restore_jobs.specs.Jobs.{openOf, leftOf};
 ghost use Rattle.restore_next.specs.Next.{nextOf, roomOf};
 ghost use Rattle.restore_reply.specs.Reply.{heardOf};
-ghost use Rattle.exports_answers.specs.Told.{codedAs};
-ghost use Rattle.restore_bytes.specs.Jobs.{isJob, sized, jobOf};
-ghost use Rattle.exports_restore.specs.Steps.{openedCode, openedJob, steppedCode, steppedJob, heardCode, heardJob};
-
-// How many bytes a job has.
-const JOB: usize = 262;
+ghost use Rattle.restore_bytes.specs.Jobs.{isJob, jobOf};
+ghost use Rattle.exports_restore.specs.Steps.{steppedCode, steppedJob, heardCode, heardJob};
 
 // What is answered where the bytes hold no job.
 const NO_JOB: u64 = refusals::SHAPE as u64;
-
-// Opens a restore of a pack that holds the 50 words `present`, towards the 15 values `wanted`, in the job's bytes.
-#[no_mangle]
-pub extern "C" fn tracksaffron_restore_open(present: &[i32], wanted: &[i32], job: &mut [u8]) -> u64
-    ensures answer { λ r. ⌜ r ≡ pick (sized (now (job .entry))) (openedCode (openOf (now (present .entry)) (now (wanted .entry)))) shape ⌝ }
-    ensures kept { λ r. ⌜ now (job .exit) ≡ pick (sized (now (job .entry))) (openedJob (openOf (now (present .entry)) (now (wanted .entry))) (now (job .entry))) (now (job .entry)) ⌝ }
-{
-    if job.len() != JOB {
-        return NO_JOB;
-    }
-    opened(restore_jobs::open(present, wanted), job)
-}
 
 // The next write of the job as a frame in lent room.
 #[no_mangle]
@@ -67,33 +48,7 @@ pub extern "C" fn tracksaffron_restore_reply(job: &mut [u8], s: &[u8]) -> u64
     }
 }
 
-// How many settings differ from wanted in the job's picture.
-#[no_mangle]
-pub extern "C" fn tracksaffron_restore_left(job: &[u8]) -> u64
-    ensures { λ r. ⌜ r ≡ pick (isJob (now (job .entry))) (codedAs 1 (leftOf (jobOf (now (job .entry))))) shape ⌝ }
-{
-    if is_job(job) {
-        coded(1, restore_jobs::left(job_of(job)))
-    } else {
-        NO_JOB
-    }
-}
-
 // ---- what a call gave, told
-
-fn opened(o: Opened, job: &mut [u8]) -> u64
-    ensures answer { λ r. ⌜ r ≡ openedCode o ⌝ }
-    ensures kept { λ r. ⌜ now (job .exit) ≡ openedJob o (now (job .entry)) ⌝ }
-{
-    let opening = o.opening;
-    match opening {
-        Opening::Accepted => {
-            put_job(o.job, job);
-            coded(1, 0)
-        }
-        Opening::Refused(why) => why.number as u64,
-    }
-}
 
 fn stepped(n: Stepped, job: &mut [u8]) -> u64
     ensures answer { λ r. ⌜ r ≡ steppedCode n ⌝ }

@@ -1,4 +1,2 @@
-pub mod Bytes
 pub mod Held
-pub mod RoundTrip
 pub mod Standing

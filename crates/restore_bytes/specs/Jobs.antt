@@ -3,46 +3,20 @@
 -- Assumes nothing.
 use Prim.Native.Nat.{ℕ}
 use mathlib.Core.Bool.{Bool, true, false, _&&_}
-use mathlib.Core.List.{List, [], _∷_, _++_}
+use mathlib.Core.List.{List, [], _∷_}
 use lib.Dec.{leb, eqb}
 use lib.ListN.{length, getD, take, drop}
 use Rattle.laws.specs.Choice.{pick}
-use Rattle.refusals.specs.Refused.{shape}
-use Rattle.lists_pathfinder.specs.Lists.{words, bytesOfWords}
+use Rattle.lists_pathfinder.specs.Lists.{words}
 use Rattle.restore_order.specs.Slots.{writes, slots}
 use Rattle.restore_jobs.specs.declared.Phase.{Phase}
 use Rattle.restore_jobs.specs.declared.Phase.the-variants.{Ready, Waiting, Stopped}
 use Rattle.restore_jobs.specs.declared.Job.{Job}
 use Rattle.restore_jobs.specs.Jobs.{noJob}
 
--- ---- written
-
-abbrev pub phaseByte : Phase → ℕ
-phaseByte Ready = 0
-phaseByte (Waiting r) = 1
-phaseByte Stopped = 2
-
-abbrev pub registerByte : Phase → ℕ
-registerByte Ready = 0
-registerByte (Waiting r) = r
-registerByte Stopped = 0
-
-abbrev pub phaseBytes : Phase → List ℕ
-phaseBytes p = phaseByte p ∷ registerByte p ∷ []
-
-unfoldable pub jobBytes : Job → List ℕ
-jobBytes j = bytesOfWords (j .present) ++ bytesOfWords (j .wanted) ++ phaseBytes (j .phase)
-
+-- so many bytes
 abbrev pub sized : List ℕ → Bool
 sized b = eqb (length b) 262
-
--- bytes that are to hold a job: 8 where they are not so many
-abbrev pub sizeFault : List ℕ → ℕ
-sizeFault b = pick (sized b) 0 shape
-
--- a job put into bytes; where they are not so many, they are as they were
-unfoldable pub jobAfter : Job → List ℕ → List ℕ
-jobAfter j b = pick (sized b) (jobBytes j) b
 
 -- ---- read
 

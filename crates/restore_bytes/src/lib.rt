@@ -1,18 +1,15 @@
-// A restore's job in 262 bytes, for who keeps it where no struct can stand (docs/DECISIONS.md, C and Rust): judged, read and written.
+// A restore's job in 262 bytes, for who keeps it where no struct can stand (docs/DECISIONS.md, C and Rust): judged and read.
 // `specs/Jobs.antt` says how a job stands in its bytes.
-use lists_pathfinder::put_words;
 use lists_pathfinder::read_words;
 use restore_jobs::Job;
 use restore_jobs::Phase;
 use restore_rules::First;
 use restore_rules::first_write;
 ghost use mathlib.Core.Path.{_≡_};
-ghost use mathlib.Core.List.{_++_};
-ghost use lib.ListN.{length, take};
-ghost use Rattle.restore_bytes.specs.Jobs.{phaseBytes, phaseIn, stands, isJob, jobOf, sizeFault, jobAfter};
+ghost use Rattle.restore_bytes.specs.Jobs.{phaseIn, stands, isJob, jobOf};
 
 // How many bytes a job has.
-const JOB: usize = 262;
+pub const JOB: usize = 262;
 
 // Whether the bytes hold a job: so many of them, one of the three phases, and a job that a restore can come to.
 pub fn is_job(b: &[u8]) -> bool
@@ -49,21 +46,6 @@ pub fn job_of(b: &[u8]) -> Job
     }
 }
 
-// Puts a job into its bytes. Answers 0, or 8 where they are not so many; they then keep their contents.
-pub fn put_job(j: Job, b: &mut [u8]) -> u8
-    ensures answer { λ r. ⌜ r ≡ sizeFault (now (b .entry)) ⌝ }
-    ensures held { λ r. ⌜ now (b .exit) ≡ jobAfter j (now (b .entry)) ⌝ }
-{
-    if b.len() != JOB {
-        return refusals::SHAPE;
-    }
-    put_words(&j.present, &mut b[0..200]);
-    put_words(&j.wanted, &mut b[200..260]);
-    let phase = j.phase;
-    put_phase(phase, b);
-    0
-}
-
 // Whether a restore can come to the job: a waiting one waits for the first of its writes.
 fn can_stand(j: Job) -> bool
     ensures { λ r. ⌜ r ≡ stands j ⌝ }
@@ -90,23 +72,4 @@ fn phase_of(p: u8, register: u8) -> Phase
         return Phase::Waiting(register);
     }
     Phase::Stopped
-}
-
-fn put_phase(phase: Phase, b: &mut [u8])
-    requires { ⌜ length (now b) ≡ 262 ⌝ }
-    ensures { λ _. ⌜ now (b .exit) ≡ take 260 (now (b .entry)) ++ phaseBytes phase ⌝ }
-{
-    let bytes = phase_bytes(phase);
-    b[260] = bytes[0];
-    b[261] = bytes[1];
-}
-
-fn phase_bytes(phase: Phase) -> [u8; 2]
-    ensures { λ r. ⌜ r ≡ phaseBytes phase ⌝ }
-{
-    match phase {
-        Phase::Ready => [0, 0],
-        Phase::Waiting(register) => [1, register],
-        Phase::Stopped => [2, 0],
-    }
 }

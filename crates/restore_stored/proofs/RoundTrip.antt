@@ -16,8 +16,9 @@ use Rattle.lists_pathfinder.proofs.RoundTrip.{Fitting, words-back}
 use Rattle.restore_jobs.specs.declared.Phase.{Phase}
 use Rattle.restore_jobs.specs.declared.Phase.the-variants.{Ready, Waiting, Stopped}
 use Rattle.restore_jobs.specs.declared.Job.{Job}
-use Rattle.restore_bytes.specs.Jobs.{phaseByte, registerByte, phaseBytes, jobBytes, phaseIn, jobOf, stands, isJob}
+use Rattle.restore_bytes.specs.Jobs.{phaseIn, jobOf, stands, isJob}
 use Rattle.restore_bytes.proofs.Held.{job-is}
+use Rattle.restore_stored.specs.Stored.{phaseByte, registerByte, phaseBytes, jobBytes}
 
 row-back : (vs : List ℤ) → Fitting vs → words (length vs) (bytesOfWords vs) ≡ vs
 row-back vs f = ap (words (length vs)) (sym (append-nil (bytesOfWords vs))) ∙ words-back vs [] f

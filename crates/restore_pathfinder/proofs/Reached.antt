@@ -1,5 +1,5 @@
 -- Every job that open, next and reply give is one that a restore can come to (`stands`), so that its bytes are taken for a job
--- (restore_bytes, `is-job-back`): by the phase, and then by what the machine asks or hears. Assumes nothing.
+-- (restore_stored, `is-job-back`): by the phase, and then by what the machine asks or hears. Assumes nothing.
 use mathlib.Core.Path.{_≡_, refl, ap, _∙_}
 use mathlib.Core.Bool.{Bool, true, false}
 use mathlib.Core.List.{List, [], _∷_}

@@ -1,4 +1,4 @@
--- `exports_restore::tracksaffron_restore_left` meets its contract: 8 where the bytes hold no job, else what is left of the job in them.
+-- `exports_jobs::tracksaffron_restore_left` meets its contract: 8 where the bytes hold no job, else what is left of the job in them.
 -- Assumes nothing.
 use mathlib.Core.Path.{_≡_, refl, sym, ap, _∙_}
 use mathlib.Core.Bool.{true, false}
@@ -6,8 +6,8 @@ use Rattle.restore_jobs.specs.Jobs.{leftOf}
 use Rattle.exports_answers.specs.Told.{codedAs}
 use Rattle.restore_bytes.specs.Jobs.{isJob}
 use borrow.Author.Needs.{needs}
-use Rattle.exports_restore.proofs.tracksaffron_restore_left.Statement.{statement}
-use Rattle.exports_restore.proofs.tracksaffron_restore_left.Tie as tie
+use Rattle.exports_jobs.proofs.tracksaffron_restore_left.Statement.{statement}
+use Rattle.exports_jobs.proofs.tracksaffron_restore_left.Tie as tie
 
 is-job-requires : tie.Need-is-job-requires
 is-job-requires c κs = search needs

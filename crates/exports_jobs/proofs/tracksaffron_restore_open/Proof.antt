@@ -1,11 +1,11 @@
--- `exports_restore::tracksaffron_restore_open` meets its contract: 8 where there are not so many bytes, else what opening gives.
+-- `exports_jobs::tracksaffron_restore_open` meets its contract: 8 where there are not so many bytes, else what opening gives.
 -- Assumes nothing.
 use mathlib.Core.Path.{refl, ap, _∙_}
 use borrow.Author.Tests.{eq-eqb, ne-eqb}
-use Rattle.exports_restore.specs.Steps.{openedCode, openedJob}
+use Rattle.exports_jobs.specs.Opened.{openedCode, openedJob}
 use borrow.Author.Needs.{needs}
-use Rattle.exports_restore.proofs.tracksaffron_restore_open.Statement.{statement}
-use Rattle.exports_restore.proofs.tracksaffron_restore_open.Tie as tie
+use Rattle.exports_jobs.proofs.tracksaffron_restore_open.Statement.{statement}
+use Rattle.exports_jobs.proofs.tracksaffron_restore_open.Tie as tie
 
 returns : tie.Need-returns
 returns c = simp (ne-eqb _ _ (c .if1 .taken)) (refl, refl)

@@ -1,10 +1,10 @@
--- `restore_bytes::phase_bytes` meets its contract: by the three phases.
+-- `restore_stored::phase_bytes` meets its contract: by the three phases.
 -- Assumes nothing.
 use mathlib.Core.Path.{sym, ap}
-use Rattle.restore_bytes.specs.Jobs.{phaseBytes}
+use Rattle.restore_stored.specs.Stored.{phaseBytes}
 use borrow.Author.Needs.{needs}
-use Rattle.restore_bytes.proofs.phase_bytes.Statement.{statement}
-use Rattle.restore_bytes.proofs.phase_bytes.Tie as tie
+use Rattle.restore_stored.proofs.phase_bytes.Statement.{statement}
+use Rattle.restore_stored.proofs.phase_bytes.Tie as tie
 
 enum-told : tie.Need-enum-told
 enum-told c = search needs

@@ -11,7 +11,7 @@ use Rattle.lists_pathfinder.specs.Lists.{bytesOfWords, bytesPut}
 use Rattle.lists_pathfinder.proofs.Bytes.{bytes-length}
 use Rattle.lists_pathfinder.proofs.Rows.{part-put-whole}
 use Rattle.restore_jobs.specs.declared.Job.{Job}
-use Rattle.restore_bytes.specs.Jobs.{phaseBytes, jobBytes}
+use Rattle.restore_stored.specs.Stored.{phaseBytes, jobBytes}
 
 module _ (j : Job) (b : List ℕ) (present : length (j .present) ≡ 50) (wanted : length (j .wanted) ≡ 15) (long : length b ≡ 262) where
   abbrev pub first : List ℕ

@@ -1,10 +1,10 @@
--- `exports_restore::opened` meets its contract: by the answer.
+-- `exports_jobs::opened` meets its contract: by the answer.
 -- Assumes nothing.
 use mathlib.Core.Path.{sym, ap, _∙_}
-use Rattle.exports_restore.specs.Steps.{openingCode, openingJob}
+use Rattle.exports_jobs.specs.Opened.{openingCode, openingJob}
 use borrow.Author.Needs.{needs}
-use Rattle.exports_restore.proofs.opened.Statement.{statement}
-use Rattle.exports_restore.proofs.opened.Tie as tie
+use Rattle.exports_jobs.proofs.opened.Statement.{statement}
+use Rattle.exports_jobs.proofs.opened.Tie as tie
 
 enum-told : tie.Need-enum-told
 enum-told c = search needs

@@ -1,13 +1,13 @@
--- `restore_bytes::put_job` meets its contract: the parts one after the other are the job's bytes.
+-- `restore_stored::put_job` meets its contract: the parts one after the other are the job's bytes.
 -- Assumes nothing.
 use mathlib.Core.Path.{_≡_}
 use lib.ListN.{length}
 use borrow.Author.Tests.{eq-eqb, ne-eqb}
-use Rattle.restore_bytes.specs.Jobs.{jobAfter}
-use Rattle.restore_bytes.proofs.Bytes.{one-there, two-there, job-put}
+use Rattle.restore_stored.specs.Stored.{jobAfter}
+use Rattle.restore_stored.proofs.Bytes.{one-there, two-there, job-put}
 use borrow.Author.Needs.{needs}
-use Rattle.restore_bytes.proofs.put_job.Statement.{statement}
-use Rattle.restore_bytes.proofs.put_job.Tie as tie
+use Rattle.restore_stored.proofs.put_job.Statement.{statement}
+use Rattle.restore_stored.proofs.put_job.Tie as tie
 
 returns : tie.Need-returns
 unfolding jobAfter

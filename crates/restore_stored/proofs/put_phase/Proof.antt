@@ -1,15 +1,15 @@
--- `restore_bytes::put_phase` meets its contract: two stores write what is behind the words.
+-- `restore_stored::put_phase` meets its contract: two stores write what is behind the words.
 -- Assumes nothing.
-use mathlib.Core.Path.{_≡_, ap, _∙_}
-use mathlib.Core.List.{List, _++_, append-nil}
+use mathlib.Core.Path.{ap, _∙_}
+use mathlib.Core.List.{List, [], _∷_, _++_, append-nil}
 use Prim.Native.Nat.{ℕ}
 use native.Mathlib.Omega.{arith}
 use lib.ListN.{getD, take, drop-of-length-le}
-use lib.Seq.{sets-eq}
-use Rattle.restore_bytes.specs.Jobs.{phaseBytes}
+use lib.Seq.{sets, sets-eq}
+use Rattle.restore_stored.specs.Stored.{phaseBytes}
 use borrow.Author.Needs.{needs}
-use Rattle.restore_bytes.proofs.put_phase.Statement.{statement}
-use Rattle.restore_bytes.proofs.put_phase.Tie as tie
+use Rattle.restore_stored.proofs.put_phase.Statement.{statement}
+use Rattle.restore_stored.proofs.put_phase.Tie as tie
 
 phase-bytes-requires : tie.Need-phase-bytes-requires
 phase-bytes-requires c κs = search needs
@@ -34,9 +34,9 @@ returns c =
     let start = c .before .before in
     let b = start .args .b .now in
     let bytes = phaseBytes (start .args .phase) in
-    let at : (i : ℕ) → getD (c .phase-bytes .result) i 0 ≡ getD bytes i 0 = λ i. ap (λ (l : List ℕ). getD l i 0) (c .phase-bytes .ensures) in
-    rw (at 0, at 1)
-    (sets-eq bytes b 260 (omega arith) ∙ ap (λ (l : List ℕ). take 260 b ++ bytes ++ l) (drop-of-length-le b {i = 262} (omega arith)) ∙ append-nil (take 260 b ++ bytes))
+    ap (λ (l : List ℕ). sets b 260 (getD l 0 0 ∷ getD l 1 0 ∷ [])) (c .phase-bytes .ensures)
+    ∙ sets-eq bytes b 260 (omega arith)
+    ∙ ap (λ (l : List ℕ). take 260 b ++ bytes ++ l) (drop-of-length-le b {i = 262} (omega arith)) ∙ append-nil (take 260 b ++ bytes)
 
 pub put-phase-spec : {M : Type 1} → statement M
 put-phase-spec =
