@@ -1,6 +1,5 @@
 -- `lists_pathfinder::put_words` meets its contract: a room that is too small is left, another begins with the words' bytes.
 -- Assumes nothing.
-use mathlib.Core.Path.{_≡_}
 use Prim.Native.Nat.{_*_, _<_, _≤_}
 use native.Mathlib.Omega.{arith}
 use lib.ListN.{length}
