@@ -8,9 +8,9 @@ use Rattle.analog_pace.specs.declared.Analog.{Analog}
 use Rattle.warnings_pace.specs.declared.Warnings.{Warnings}
 use Rattle.commands_pace.specs.declared.Values.{Values}
 use Rattle.commands_pace.specs.declared.Values.the-variants.{CellOvervoltage, SlowDischarge}
-use Rattle.records_pace.specs.declared.Answer.{Answer}
-use Rattle.records_pace.specs.declared.Answer.the-variants as is
-use Rattle.records_pace.specs.declared.Reply.{Reply}
+use Rattle.payloads_pace.specs.declared.Answer.{Answer}
+use Rattle.payloads_pace.specs.declared.Answer.the-variants as is
+use Rattle.payloads_pace.specs.declared.Reply.{Reply}
 use Rattle.exports_answers.specs.Told.{Told, numbers, letters, plain, refused, joined}
 
 -- ---- a record with its lists

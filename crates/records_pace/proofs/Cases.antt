@@ -1,109 +1,64 @@
 -- The cases of the definitions of a reply, each from the facts that the reader has at that place.
 -- Assumes nothing.
-use mathlib.Core.Path.{_≡_}
-use mathlib.Core.Bool.{true, false}
+use mathlib.Core.Path.{_≡_, refl, sym, ap, _∙_}
+use mathlib.Core.Bool.{Bool, true, false}
 use mathlib.Core.List.{List}
-use Prim.Native.Nat.{ℕ, _+_, _-_, _%_, _≤_}
-use borrow.Author.Tests.{eq-eqb, ne-eqb}
-use borrow.Rule.Slice.PartMut.{putMid}
+use Prim.Native.Nat.{ℕ, _%_}
+use native.Mathlib.Omega.{arith}
+use borrow.Author.Tests.{eqb-true}
 use lib.Dec.{eqb}
-use lib.IntN.{pos}
-use lib.ListN.{length, getD, take, replicate}
-use Rattle.laws.proofs.Firsts.{firsts-front}
+use lib.ListN.{length}
+use Rattle.laws.proofs.Ladders.{into}
 use Rattle.refusals.specs.declared.Refusal.{Refusal}
 use Rattle.refusals.specs.Refused.{address, request, shape}
-use Rattle.characters_pace.specs.Characters.{bytesIn, bytesAt}
+use Rattle.characters_pace.specs.Characters.{allHex, bytesIn}
+use Rattle.characters_pace.proofs.Checked.{fault-none, checked-bytes}
 use Rattle.frames_pace.specs.declared.Frame.the-variants as frame
 use Rattle.frames_pace.specs.Frame.{infoOf, frameOf}
 use Rattle.commands_pace.specs.declared.Command.{Command}
 use Rattle.commands_pace.specs.Commands.{commandOf, listed}
-use Rattle.records_pace.specs.declared.Answer.{Answer}
-use Rattle.records_pace.specs.declared.Answer.the-variants.{Hardware, Serial, Accepted, DeviceFailure, Refused}
-use Rattle.records_pace.specs.declared.Reply.{Reply}
-use Rattle.records_pace.specs.Reply.{bare, refusedReply, withText, hardwareOf, serialOf, acceptedOf, payloadReply, answeredOf, replyOf}
+use Rattle.payloads_pace.specs.Payload.{nothing, payloadReply, payloadOf}
+use Rattle.records_pace.specs.declared.Sort.{Sort}
+use Rattle.records_pace.specs.declared.Sort.the-variants.{Refused, Failure, Record}
+use Rattle.records_pace.specs.Reply.{sortOf, bySort, answeredOf, replyOf}
 
--- ---- texts
+-- ---- a whole frame
 
--- the array before
-abbrev pub places : List ℕ
-places = replicate 40 0
+-- a record has passed every test
+no-refusal : (n : ℕ) → _≡_ {A = Sort} Record (Refused n) → ⊥
+no-refusal n h = let z : _≡_ {A = ℕ} 0 1 = cc in omega arith
 
-pub text-is : (a : Answer) (n : ℕ) (d ys : List ℕ) → n ≤ 40 → ys ≡ bytesAt 0 (length (take (n - 0) places)) d
-    → _≡_ {A = Reply}
-    (record {
-      answer = a;
-      cells = replicate 16 0;
-      temperatures = replicate 8 (pos 0);
-      «cell_warnings» = replicate 16 0;
-      «temperature_warnings» = replicate 8 0;
-      text = putMid 0 (n - 0) places ys;
-    })
-    (withText a n d)
-unfolding withText
-text-is a n d ys h y = rw (firsts-front (λ i. getD d (0 + i) 0) n places ys h y)
+no-failure : _≡_ {A = Sort} Record Failure → ⊥
+no-failure h = let z : _≡_ {A = ℕ} 0 1 = cc in omega arith
 
-module _ (d : List ℕ) where
-  pub no-hardware : (length d ≡ 20 → ⊥) → refusedReply shape ≡ hardwareOf d
-  unfolding hardwareOf
-  no-hardware h = rw (ne-eqb _ _ h)
+record-passed : (same known working even : Bool) → Record ≡ sortOf same known working even → (known ≡ true) × (even ≡ true)
+record-passed same known working even h =
+    let one = into same _ _ _ (no-refusal address) h in
+    let two = into known _ _ _ (no-refusal request) (one .1) in
+    let three = into working _ _ _ no-failure (two .1) in
+    (two .0, into even _ _ _ (no-refusal shape) (three .1) .0)
 
-  pub hardware-is : length d ≡ 20 → withText Hardware 20 d ≡ hardwareOf d
-  unfolding hardwareOf
-  hardware-is h = rw (eq-eqb _ _ h)
-
-  pub no-serial : (length d ≡ 20 → ⊥) → (length d ≡ 40 → ⊥) → refusedReply shape ≡ serialOf d
-  unfolding serialOf
-  no-serial h k = rw (ne-eqb _ _ h, ne-eqb _ _ k)
-
-  pub serial-20 : length d ≡ 20 → withText (Serial 20) 20 d ≡ serialOf d
-  unfolding serialOf
-  serial-20 h = rw h
-
-  pub serial-40 : length d ≡ 40 → withText (Serial 40) 40 d ≡ serialOf d
-  unfolding serialOf
-  serial-40 h = rw h
-
-  pub not-accepted : (length d ≡ 0 → ⊥) → refusedReply shape ≡ acceptedOf d
-  unfolding acceptedOf
-  not-accepted h = rw (ne-eqb _ _ h)
-
-  pub accepted-is : length d ≡ 0 → bare Accepted ≡ acceptedOf d
-  unfolding acceptedOf
-  accepted-is h = rw (eq-eqb _ _ h)
-
--- ---- a whole frame from the address asked
-
-module _ (a : ℕ) (c : Command) (code : ℕ) (info : List ℕ) where
-  pub unlisted : listed c ≡ false → refusedReply request ≡ answeredOf a c code info
+module _ (a from : ℕ) (c : Command) (code : ℕ) (info : List ℕ) (sort : Sort) (e : sort ≡ sortOf (eqb from a) (listed c) (eqb code 0) (eqb (length info % 2) 0)) where
+  pub sorted : (k : Sort) → sort ≡ k → bySort a c code info k ≡ answeredOf a from c code info
   unfolding answeredOf
-  unlisted h = rw h
+  sorted k h = ap (bySort a c code info) (sym h ∙ e)
 
-  module _ (known : listed c ≡ true) where
-    pub failed : (code ≡ 0 → ⊥) → bare (DeviceFailure code) ≡ answeredOf a c code info
-    unfolding answeredOf
-    failed h = rw (known, ne-eqb _ _ h)
-
-    module _ (fine : code ≡ 0) where
-      pub odd : eqb (length info % 2) 0 ≡ false → refusedReply shape ≡ answeredOf a c code info
-      unfolding answeredOf
-      odd h = rw (known, eq-eqb _ _ fine, h)
-
-      pub even : eqb (length info % 2) 0 ≡ true → payloadReply a c (bytesIn info) ≡ answeredOf a c code info
-      unfolding answeredOf
-      even h = rw (known, eq-eqb _ _ fine, h)
+  -- hex digits in an even count: what INFO says is what its bytes say
+  pub record-is : allHex info ≡ true → sort ≡ Record → payloadOf a c info ≡ answeredOf a from c code info
+  unfolding payloadOf
+  record-is hex h =
+      let p = record-passed (eqb from a) (listed c) (eqb code 0) (eqb (length info % 2) 0) (sym h ∙ e) in
+      let fine = fault-none info hex (eqb-true _ _ (p .1)) in
+      let on : listed c ≡ true = p .0 in
+      rw on (sym (checked-bytes nothing (payloadReply a c) info fine) ∙ sorted Record h)
 
 -- ---- the reply
 
 module _ (a asked : ℕ) (s : List ℕ) where
-  pub no-frame : (w : Refusal) → frameOf s ≡ frame.Refused w → bare (Refused w) ≡ replyOf a asked s
+  pub no-frame : (w : Refusal) → frameOf s ≡ frame.Refused w → nothing w ≡ replyOf a asked s
   unfolding replyOf
   no-frame w e = rw e
 
-  module _ (from code st len : ℕ) (e : frameOf s ≡ frame.Whole from code st len) where
-    pub other-address : (from ≡ a → ⊥) → refusedReply address ≡ replyOf a asked s
-    unfolding replyOf
-    other-address h = rw (e, ne-eqb _ _ h)
-
-    pub same-address : from ≡ a → answeredOf a (commandOf asked) code (infoOf s) ≡ replyOf a asked s
-    unfolding replyOf
-    same-address h = rw (e, eq-eqb _ _ h)
+  pub whole-frame : (from code st len : ℕ) → frameOf s ≡ frame.Whole from code st len → answeredOf a from (commandOf asked) code (infoOf s) ≡ replyOf a asked s
+  unfolding replyOf
+  whole-frame from code st len e = rw e

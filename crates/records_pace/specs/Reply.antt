@@ -1,139 +1,42 @@
 -- What reading a PACE reply finds: the frame's refusals (1, 2, 3, 13, 4, 5, 6), then 6, 7, the device's failure, 8, 9, or the record (01, PACE; 01, Refusal numbers).
 -- Assumes nothing.
-use mathlib.Core.Bool.{_||_}
-use mathlib.Core.List.{List, _++_}
+use mathlib.Core.Bool.{Bool}
+use mathlib.Core.List.{List}
 use Prim.Native.Nat.{ℕ, _%_}
 use lib.Dec.{eqb}
-use lib.IntN.{pos}
-use lib.ListN.{length, drop, replicate}
+use lib.ListN.{length}
 use Rattle.laws.specs.Choice.{pick}
-use Rattle.refusals.specs.Refused.{refusedWith, address, request, shape}
-use Rattle.characters_pace.specs.Characters.{bytesIn, bytesAt}
+use Rattle.refusals.specs.Refused.{address, request, shape}
+use Rattle.characters_pace.specs.Characters.{bytesIn}
 use Rattle.frames_pace.specs.declared.Frame.{Frame}
 use Rattle.frames_pace.specs.declared.Frame.the-variants as frame
 use Rattle.frames_pace.specs.Frame.{infoOf, frameOf}
 use Rattle.commands_pace.specs.declared.Command.{Command}
-use Rattle.commands_pace.specs.declared.Command.the-variants as command
 use Rattle.commands_pace.specs.Commands.{commandOf, listed}
-use Rattle.settings_pace.specs.declared.Found.{Found}
-use Rattle.settings_pace.specs.declared.Found.the-variants as setting
-use Rattle.settings_pace.specs.Reading as settings
-use Rattle.analog_pace.specs.declared.Found.{Found as AnalogFound}
-use Rattle.analog_pace.specs.declared.Found.the-variants as analog
-use Rattle.analog_pace.specs.declared.Reading.{Reading as AnalogReading}
-use Rattle.analog_pace.specs.Analog as analogs
-use Rattle.warnings_pace.specs.declared.Found.{Found as WarningsFound}
-use Rattle.warnings_pace.specs.declared.Found.the-variants as warnings
-use Rattle.warnings_pace.specs.declared.Reading.{Reading as WarningsReading}
-use Rattle.warnings_pace.specs.Warnings as status
-use Rattle.records_pace.specs.declared.Answer.{Answer}
-use Rattle.records_pace.specs.declared.Answer.the-variants.{Analog, Warnings, Hardware, Serial, Setting, Accepted, DeviceFailure, Refused}
-use Rattle.records_pace.specs.declared.Reply.{Reply}
+use Rattle.payloads_pace.specs.declared.Answer.the-variants.{DeviceFailure}
+use Rattle.payloads_pace.specs.declared.Reply.{Reply}
+use Rattle.payloads_pace.specs.Payload.{bare, nothing, refusedReply, payloadReply}
+use Rattle.records_pace.specs.declared.Sort.{Sort}
+use Rattle.records_pace.specs.declared.Sort.the-variants.{Refused, Failure, Record}
 
--- ---- answers with their rows
+-- a whole frame by its tests: it comes from the address asked, the command asked is listed, the return code is 00, INFO has an even count of
+-- characters. 6; 7, before the device's failure; the failure, whose INFO is not looked at; 8
+abbrev pub sortOf : Bool → Bool → Bool → Bool → Sort
+sortOf same known working even =
+    pick same (pick known (pick working (pick even Record (Refused shape)) Failure) (Refused request)) (Refused address)
 
--- an answer without rows
-unfoldable pub bare : Answer → Reply
-bare a =
-    record {
-      answer = a;
-      cells = replicate 16 0;
-      temperatures = replicate 8 (pos 0);
-      «cell_warnings» = replicate 16 0;
-      «temperature_warnings» = replicate 8 0;
-      text = replicate 40 0;
-    }
+-- a frame of that sort, as the answer of the address a to the command c
+abbrev pub bySort : ℕ → Command → ℕ → List ℕ → Sort → Reply
+bySort a c code info (Refused n) = refusedReply n
+bySort a c code info Failure = bare (DeviceFailure code)
+bySort a c code info Record = payloadReply a c (bytesIn info)
 
--- a refusal with its number
-abbrev pub refusedReply : ℕ → Reply
-refusedReply n = bare (Refused (refusedWith n))
-
-abbrev pub analogAnswer : AnalogFound → Answer
-analogAnswer (analog.Analog a) = Analog a
-analogAnswer (analog.Refused w) = Refused w
-
-unfoldable pub ofAnalog : AnalogReading → Reply
-ofAnalog r =
-    record {
-      answer = analogAnswer (r .found);
-      cells = r .cells;
-      temperatures = r .temperatures;
-      «cell_warnings» = replicate 16 0;
-      «temperature_warnings» = replicate 8 0;
-      text = replicate 40 0;
-    }
-
-abbrev pub warningsAnswer : WarningsFound → Answer
-warningsAnswer (warnings.Warnings w) = Warnings w
-warningsAnswer (warnings.Refused w) = Refused w
-
-unfoldable pub ofWarnings : WarningsReading → Reply
-ofWarnings r =
-    record {
-      answer = warningsAnswer (r .found);
-      cells = replicate 16 0;
-      temperatures = replicate 8 (pos 0);
-      «cell_warnings» = r .cells;
-      «temperature_warnings» = r .temperatures;
-      text = replicate 40 0;
-    }
-
-abbrev pub ofSetting : Found → Reply
-ofSetting (setting.Set v) = bare (Setting v)
-ofSetting (setting.Refused w) = bare (Refused w)
-
--- an answer with the first n bytes of d as its text
-unfoldable pub withText : Answer → ℕ → List ℕ → Reply
-withText a n d =
-    record {
-      answer = a;
-      cells = replicate 16 0;
-      temperatures = replicate 8 (pos 0);
-      «cell_warnings» = replicate 16 0;
-      «temperature_warnings» = replicate 8 0;
-      text = bytesAt 0 n d ++ drop n (replicate 40 0);
-    }
-
--- ---- the record by the command asked: the bytes d
-
--- C1: 20 bytes
-unfoldable pub hardwareOf : List ℕ → Reply
-hardwareOf d = pick (eqb (length d) 20) (withText Hardware 20 d) (refusedReply shape)
-
--- C2: 20 or 40
-unfoldable pub serialOf : List ℕ → Reply
-serialOf d = pick (eqb (length d) 20 || eqb (length d) 40) (withText (Serial (length d)) (length d) d) (refusedReply shape)
-
--- "Replies to D0 and DA have empty INFO"
-unfoldable pub acceptedOf : List ℕ → Reply
-acceptedOf d = pick (eqb (length d) 0) (bare Accepted) (refusedReply shape)
-
-abbrev pub payloadReply : ℕ → Command → List ℕ → Reply
-payloadReply a command.Analog d = ofAnalog (analogs.readingOf a d)
-payloadReply a command.Warnings d = ofWarnings (status.readingOf a d)
-payloadReply a command.Hardware d = hardwareOf d
-payloadReply a command.Serial d = serialOf d
-payloadReply a (command.Reads s) d = ofSetting (settings.replyOf s d)
-payloadReply a (command.Writes s) d = acceptedOf d
-payloadReply a command.Unlisted d = refusedReply request
-
--- ---- the reply
-
--- a whole frame from the address asked: 7, the failure, whose INFO is not looked at, 8 for an odd count of characters, or the record
-unfoldable pub answeredOf : ℕ → Command → ℕ → List ℕ → Reply
-answeredOf a c code info =
-    pick (listed c)
-    (pick (eqb code 0)
-    (pick (eqb (length info % 2) 0)
-    (payloadReply a c (bytesIn info))
-    (refusedReply shape))
-    (bare (DeviceFailure code)))
-    (refusedReply request)
+unfoldable pub answeredOf : ℕ → ℕ → Command → ℕ → List ℕ → Reply
+answeredOf a from c code info = bySort a c code info (sortOf (eqb from a) (listed c) (eqb code 0) (eqb (length info % 2) 0))
 
 abbrev pub ofFrame : ℕ → ℕ → List ℕ → Frame → Reply
-ofFrame a asked s (frame.Refused w) = bare (Refused w)
-ofFrame a asked s (frame.Whole from code start len) =
-    pick (eqb from a) (answeredOf a (commandOf asked) code (infoOf s)) (refusedReply address)
+ofFrame a asked s (frame.Refused w) = nothing w
+ofFrame a asked s (frame.Whole from code start len) = answeredOf a from (commandOf asked) code (infoOf s)
 
 unfoldable pub replyOf : ℕ → ℕ → List ℕ → Reply
 replyOf a asked s = ofFrame a asked s (frameOf s)

@@ -1,85 +1,84 @@
--- `records_pace::answered` meets its contract: each way out is the case of `answeredOf` that its tests name.
+-- `records_pace::answered` meets its contract: by the sort of the frame.
 -- Assumes nothing.
-use mathlib.Core.Path.{_≡_, sym, ap, _∙_}
-use mathlib.Core.Bool.{true}
-use borrow.Author.Tests.{not-true, not-false, eqb-true, eqb-false}
+use mathlib.Core.Path.{_≡_, ap, _∙_}
+use mathlib.Core.Bool.{Bool}
+use Prim.Native.Nat.{_%_}
+use lib.Dec.{eqb}
+use lib.ListN.{length}
 use Rattle.refusals.specs.declared.Refusal.{Refusal}
-use Rattle.characters_pace.proofs.Checked.{fault-none}
 use Rattle.commands_pace.specs.Commands.{listed}
-use Rattle.records_pace.specs.declared.Answer.the-variants.{Refused}
-use Rattle.records_pace.specs.Reply.{bare}
-use Rattle.records_pace.proofs.Cases.{unlisted, failed, odd, even}
+use Rattle.payloads_pace.specs.Payload.{nothing}
+use Rattle.records_pace.specs.declared.Sort.{Sort}
+use Rattle.records_pace.specs.Reply.{sortOf}
+use Rattle.records_pace.proofs.Cases.{sorted, record-is}
 use borrow.Author.Needs.{needs}
 use Rattle.records_pace.proofs.answered.Statement.{statement}
 use Rattle.records_pace.proofs.answered.Tie as tie
 
+-- the sort, by its tests
+tested : (c : tie.After-sort-of) → (let a = c .before .before .before .args in c .sort-of .result ≡ sortOf (eqb (a .from) (a .address)) (listed (a .command)) (eqb (a .code) 0) (eqb (length (a .info .now) % 2) 0))
+tested c =
+    let a = c .before .before .before .args in
+    c .sort-of .ensures ∙ ap (λ (b : Bool). sortOf (eqb (a .from) (a .address)) b (eqb (a .code) 0) (eqb (length (a .info .now) % 2) 0)) (c .before .is-listed .ensures)
+
 is-listed-requires : tie.Need-is-listed-requires
 is-listed-requires c κs = search needs
+
+sort-of-requires : tie.Need-sort-of-requires
+sort-of-requires c κs = search needs
+
+enum-known-sort : tie.Need-enum-known-sort
+enum-known-sort c = search needs
 
 refuse-requires : tie.Need-refuse-requires
 refuse-requires c κs = search needs
 
-refuse-requires-2 : tie.Need-refuse-requires-2
-refuse-requires-2 c κs = search needs
-
--- what the test of the command says where it was passed
-known : (c : tie.Else1) → listed (c .before .before .before .before .before .args .command) ≡ true
-known c = sym (c .before .before .before .is-listed .ensures) ∙ not-false _ (c .if1 .left)
-
 plain-requires : tie.Need-plain-requires
 plain-requires c κs = search needs
 
-returns : tie.Need-returns
-returns c =
-    let one = c .before .before .before in
-    let l = one .before in
-    let a = l .before .before .args in
-    c .plain .ensures ∙ ap (λ (w : Refusal). bare (Refused w)) (one .refuse .ensures)
-    ∙ unlisted (a .address) (a .command) (a .code) (a .info .now) (sym (l .is-listed .ensures) ∙ not-true _ (c .before .if1 .taken))
+enum-told : tie.Need-enum-told
+enum-told c = search needs
 
 plain-requires-2 : tie.Need-plain-requires-2
 plain-requires-2 c κs = search needs
 
+enum-told-2 : tie.Need-enum-told-2
+enum-told-2 c = search needs
+
+read-payload-requires : tie.Need-read-payload-requires
+read-payload-requires c κs = search needs
+
+returns : tie.Need-returns
+returns c =
+    let told = c .before .before .before in
+    let s = told .before .before in
+    c .plain .ensures ∙ ap (λ (w : Refusal). nothing w) (c .before .refuse .ensures) ∙ sorted _ _ _ _ _ _ (tested s) _ (told .sort .given .1)
+
 returns-2 : tie.Need-returns-2
 returns-2 c =
-    let one = c .before .before in
-    let a = one .before .before .before .before .before .args in
-    c .plain2 .ensures ∙ failed (a .address) (a .command) (a .code) (a .info .now) (known one) (eqb-false _ _ (not-true _ (c .before .if2 .taken)))
-
-plain-requires-3 : tie.Need-plain-requires-3
-plain-requires-3 c κs = search needs
+    let told = c .before in
+    let s = told .before .before in
+    c .plain2 .ensures ∙ sorted _ _ _ _ _ _ (tested s) _ (told .enum-told .given .1)
 
 returns-3 : tie.Need-returns-3
 returns-3 c =
-    let two = c .before .before in
-    let one = two .before in
-    let a = one .before .before .before .before .before .args in
-    c .plain3 .ensures ∙ ap (λ (w : Refusal). bare (Refused w)) (one .before .refuse2 .ensures)
-    ∙ odd (a .address) (a .command) (a .code) (a .info .now) (known one) (eqb-true _ _ (not-false _ (two .if2 .left))) (not-true _ (c .before .if3 .taken))
-
-payload-requires : tie.Need-payload-requires
-payload-requires c κs = fault-none _ (search needs) (eqb-true _ _ (not-false _ (c .if3 .left)))
-
-returns-4 : tie.Need-returns-4
-returns-4 c =
-    let two = c .before .before in
-    let one = two .before in
-    let a = one .before .before .before .before .before .args in
-    c .payload .ensures
-    ∙ even (a .address) (a .command) (a .code) (a .info .now) (known one) (eqb-true _ _ (not-false _ (two .if2 .left))) (not-false _ (c .before .if3 .left))
+    let told = c .before in
+    let s = told .before .before in
+    c .read-payload .ensures ∙ record-is _ _ _ _ _ _ (tested s) (s .before .before .before .pre) (told .enum-told2 .given .1)
 
 pub answered-spec : {M : Type 1} → statement M
 answered-spec =
     tie.close
     (tie.spec
     is-listed-requires
+    sort-of-requires
+    enum-known-sort
     refuse-requires
-    refuse-requires-2
     plain-requires
-    returns
+    enum-told
     plain-requires-2
+    enum-told-2
+    read-payload-requires
+    returns
     returns-2
-    plain-requires-3
-    returns-3
-    payload-requires
-    returns-4)
+    returns-3)

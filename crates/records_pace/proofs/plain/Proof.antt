@@ -1,7 +1,7 @@
 -- `records_pace::plain` meets its contract: the answer with zeros beside it.
 -- Assumes nothing.
 use mathlib.Core.Path.{refl}
-use Rattle.records_pace.specs.Reply.{bare}
+use Rattle.payloads_pace.specs.Payload.{bare}
 use Rattle.records_pace.proofs.plain.Statement.{statement}
 use Rattle.records_pace.proofs.plain.Tie as tie
 

@@ -9,7 +9,7 @@ use Rattle.frames_pace.specs.Frame.{frameOf}
 use Rattle.frames_pace.proofs.Whole.{Said, whole-says, info-lent, info-hex}
 use Rattle.commands_pace.specs.declared.Command.{Command}
 use Rattle.records_pace.specs.Reply.{answeredOf}
-use Rattle.records_pace.proofs.Cases.{no-frame, other-address, same-address}
+use Rattle.records_pace.proofs.Cases.{no-frame, whole-frame}
 use borrow.Author.Needs.{needs}
 use Rattle.records_pace.proofs.read_reply.Statement.{statement}
 use Rattle.records_pace.proofs.read_reply.Tie as tie
@@ -39,19 +39,11 @@ plain-requires c κs = search needs
 enum-known-f-2 : tie.Need-enum-known-f-2
 enum-known-f-2 c = search needs
 
-refused-requires : tie.Need-refused-requires
-refused-requires c κs = search needs
-
-returns : tie.Need-returns
-returns c =
-    let k = c .before .before in
-    c .refused .ensures ∙ other-address _ _ _ _ _ _ _ (is-frame k) (c .before .if1 .taken)
-
 command-of-requires : tie.Need-command-of-requires
 command-of-requires c κs = search needs
 
 add-answered : tie.Need-add-answered
-add-answered c = let d = said (c .before .before) in omega arith
+add-answered c = let d = said (c .before) in omega arith
 
 sub-answered : tie.Need-sub-answered
 sub-answered c = search needs
@@ -60,22 +52,22 @@ part-answered-start : tie.Need-part-answered-start
 part-answered-start c = search needs
 
 part-answered-end : tie.Need-part-answered-end
-part-answered-end c = let d = said (c .before .before) in omega arith
+part-answered-end c = let d = said (c .before) in omega arith
 
 answered-requires : tie.Need-answered-requires
-answered-requires c κs = let k = c .before .before .before in rw (info-lent _ _ _ _ _ (said k)) (info-hex _ _ _ _ _ (said k))
+answered-requires c κs = let k = c .before .before in rw (info-lent _ _ _ _ _ (said k)) (info-hex _ _ _ _ _ (said k))
+
+returns : tie.Need-returns
+returns c = c .plain .ensures ∙ no-frame _ _ _ _ (sym (c .before .before .before .before .read-frame .ensures) ∙ c .before .before .f .given .1)
 
 returns-2 : tie.Need-returns-2
-returns-2 c = c .plain .ensures ∙ no-frame _ _ _ _ (sym (c .before .before .before .before .read-frame .ensures) ∙ c .before .before .f .given .1)
-
-returns-3 : tie.Need-returns-3
-returns-3 c =
+returns-2 c =
     let named = c .before .before in
-    let k = named .before .before in
+    let k = named .before in
     let a = from k .args in
     c .answered .ensures
-    ∙ ap₂ (λ (x : Command) (l : List ℕ). answeredOf (a .address) x (Fields k .1 .0) l) (named .command-of .ensures) (info-lent _ _ _ _ _ (said k))
-    ∙ same-address _ _ _ _ _ _ _ (is-frame k) (named .before .if1 .left)
+    ∙ ap₂ (λ (x : Command) (l : List ℕ). answeredOf (a .address) (Fields k .0) x (Fields k .1 .0) l) (named .command-of .ensures) (info-lent _ _ _ _ _ (said k))
+    ∙ whole-frame _ _ _ _ _ _ _ (is-frame k)
 
 pub read-reply-spec : {M : Type 1} → statement M
 read-reply-spec =
@@ -85,13 +77,11 @@ read-reply-spec =
     enum-known-f
     plain-requires
     enum-known-f-2
-    refused-requires
-    returns
     command-of-requires
     add-answered
     sub-answered
     part-answered-start
     part-answered-end
     answered-requires
-    returns-2
-    returns-3)
+    returns
+    returns-2)

@@ -1,11 +1,11 @@
--- `records_pace::serial` meets its contract: the bytes are half as many as the characters.
+-- `payloads_pace::serial` meets its contract: the bytes are half as many as the characters.
 -- Assumes nothing.
 use mathlib.Core.Path.{sym, _∙_}
 use Rattle.characters_pace.proofs.Carried.{bytes-length}
-use Rattle.records_pace.proofs.Cases.{no-serial, serial-20, serial-40}
+use Rattle.payloads_pace.proofs.Cases.{no-serial, serial-20, serial-40}
 use borrow.Author.Needs.{needs}
-use Rattle.records_pace.proofs.serial.Statement.{statement}
-use Rattle.records_pace.proofs.serial.Tie as tie
+use Rattle.payloads_pace.proofs.serial.Statement.{statement}
+use Rattle.payloads_pace.proofs.serial.Tie as tie
 
 text-requires : tie.Need-text-requires
 text-requires c κs = search needs

@@ -1,10 +1,10 @@
--- `records_pace::text` meets its contract: the bytes stand in the array's front.
+-- `payloads_pace::text` meets its contract: the bytes stand in the array's front.
 -- Assumes nothing.
 use Rattle.characters_pace.specs.Characters.{bytesIn}
-use Rattle.records_pace.proofs.Cases.{text-is}
+use Rattle.payloads_pace.proofs.Cases.{text-is}
 use borrow.Author.Needs.{needs}
-use Rattle.records_pace.proofs.text.Statement.{statement}
-use Rattle.records_pace.proofs.text.Tie as tie
+use Rattle.payloads_pace.proofs.text.Statement.{statement}
+use Rattle.payloads_pace.proofs.text.Tie as tie
 
 sub-bytes-of : tie.Need-sub-bytes-of
 sub-bytes-of c = search needs

@@ -1,11 +1,11 @@
--- `records_pace::hardware` meets its contract: the bytes are half as many as the characters.
+-- `payloads_pace::hardware` meets its contract: the bytes are half as many as the characters.
 -- Assumes nothing.
 use mathlib.Core.Path.{sym, _∙_}
 use Rattle.characters_pace.proofs.Carried.{bytes-length}
-use Rattle.records_pace.proofs.Cases.{no-hardware, hardware-is}
+use Rattle.payloads_pace.proofs.Cases.{no-hardware, hardware-is}
 use borrow.Author.Needs.{needs}
-use Rattle.records_pace.proofs.hardware.Statement.{statement}
-use Rattle.records_pace.proofs.hardware.Tie as tie
+use Rattle.payloads_pace.proofs.hardware.Statement.{statement}
+use Rattle.payloads_pace.proofs.hardware.Tie as tie
 
 text-requires : tie.Need-text-requires
 text-requires c κs = search needs

@@ -1,11 +1,11 @@
--- `records_pace::refused` meets its contract: the refusal, with zeros beside it.
+-- `payloads_pace::refused` meets its contract: the refusal, with zeros beside it.
 -- Assumes nothing.
 use mathlib.Core.Path.{ap, _∙_}
-use Rattle.records_pace.specs.declared.Answer.the-variants.{Refused}
-use Rattle.records_pace.specs.Reply.{bare}
+use Rattle.payloads_pace.specs.declared.Answer.the-variants.{Refused}
+use Rattle.payloads_pace.specs.Payload.{bare}
 use borrow.Author.Needs.{needs}
-use Rattle.records_pace.proofs.refused.Statement.{statement}
-use Rattle.records_pace.proofs.refused.Tie as tie
+use Rattle.payloads_pace.proofs.refused.Statement.{statement}
+use Rattle.payloads_pace.proofs.refused.Tie as tie
 
 refuse-requires : tie.Need-refuse-requires
 refuse-requires c κs = search needs

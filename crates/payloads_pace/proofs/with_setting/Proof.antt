@@ -1,10 +1,10 @@
--- `records_pace::with_setting` meets its contract: by what was found.
+-- `payloads_pace::with_setting` meets its contract: by what was found.
 -- Assumes nothing.
 use mathlib.Core.Path.{sym, ap, _∙_}
-use Rattle.records_pace.specs.Reply.{ofSetting}
+use Rattle.payloads_pace.specs.Payload.{ofSetting}
 use borrow.Author.Needs.{needs}
-use Rattle.records_pace.proofs.with_setting.Statement.{statement}
-use Rattle.records_pace.proofs.with_setting.Tie as tie
+use Rattle.payloads_pace.proofs.with_setting.Statement.{statement}
+use Rattle.payloads_pace.proofs.with_setting.Tie as tie
 
 enum-known-found : tie.Need-enum-known-found
 enum-known-found c = search needs

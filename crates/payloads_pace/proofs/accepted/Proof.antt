@@ -1,11 +1,11 @@
--- `records_pace::accepted` meets its contract: the bytes are half as many as the characters.
+-- `payloads_pace::accepted` meets its contract: the bytes are half as many as the characters.
 -- Assumes nothing.
 use mathlib.Core.Path.{sym, _∙_}
 use Rattle.characters_pace.proofs.Carried.{bytes-length}
-use Rattle.records_pace.proofs.Cases.{not-accepted, accepted-is}
+use Rattle.payloads_pace.proofs.Cases.{not-accepted, accepted-is}
 use borrow.Author.Needs.{needs}
-use Rattle.records_pace.proofs.accepted.Statement.{statement}
-use Rattle.records_pace.proofs.accepted.Tie as tie
+use Rattle.payloads_pace.proofs.accepted.Statement.{statement}
+use Rattle.payloads_pace.proofs.accepted.Tie as tie
 
 plain-requires : tie.Need-plain-requires
 plain-requires c κs = search needs

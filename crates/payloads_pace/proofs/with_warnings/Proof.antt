@@ -1,9 +1,9 @@
--- `records_pace::with_warnings` meets its contract: by what was found.
+-- `payloads_pace::with_warnings` meets its contract: by what was found.
 -- Assumes nothing.
-use Rattle.records_pace.specs.Reply.{ofWarnings}
+use Rattle.payloads_pace.specs.Payload.{ofWarnings}
 use borrow.Author.Needs.{needs}
-use Rattle.records_pace.proofs.with_warnings.Statement.{statement}
-use Rattle.records_pace.proofs.with_warnings.Tie as tie
+use Rattle.payloads_pace.proofs.with_warnings.Statement.{statement}
+use Rattle.payloads_pace.proofs.with_warnings.Tie as tie
 
 enum-known-found : tie.Need-enum-known-found
 enum-known-found c = search needs

@@ -1,9 +1,9 @@
--- `records_pace::with_analog` meets its contract: by what was found.
+-- `payloads_pace::with_analog` meets its contract: by what was found.
 -- Assumes nothing.
-use Rattle.records_pace.specs.Reply.{ofAnalog}
+use Rattle.payloads_pace.specs.Payload.{ofAnalog}
 use borrow.Author.Needs.{needs}
-use Rattle.records_pace.proofs.with_analog.Statement.{statement}
-use Rattle.records_pace.proofs.with_analog.Tie as tie
+use Rattle.payloads_pace.proofs.with_analog.Statement.{statement}
+use Rattle.payloads_pace.proofs.with_analog.Tie as tie
 
 enum-known-found : tie.Need-enum-known-found
 enum-known-found c = search needs
