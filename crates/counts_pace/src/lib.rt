@@ -2,7 +2,7 @@
 // temperatures and a value for each, and the rest. INFO comes as characters; where they are no bytes that is refused first, and the
 // rest is said of the bytes that they carry.
 use characters_pace::byte_of;
-use characters_pace::fault_of;
+use faults_pace::fault_of;
 use refusals::Refusal;
 use refusals::refuse;
 ghost use mathlib.Core.Path.{_≡_};

@@ -1,8 +1,8 @@
 // PACE frames (004; 01, PACE): ~, then upper-case hex: version 25, address, CID1 46, command (a return code in a reply),
 // LENGTH, INFO, CHKSUM, then carriage return. `frames_written_pace` writes them.
-use characters_pace::all_hex;
 use characters_pace::byte_of;
 use characters_pace::word_of;
+use faults_pace::all_hex;
 use lengths_pace::Length;
 use lengths_pace::length_count;
 use orders::pace_frame;

@@ -2,9 +2,9 @@
 // INFO comes as characters; where they are no bytes that is refused first, and the rest is said of the bytes that they carry.
 use analog_pace::Analog;
 use analog_pace::read_analog;
-use characters_pace::fault_of;
 use commands_pace::Command;
 use commands_pace::Values;
+use faults_pace::fault_of;
 use lists_pace::bytes_of;
 use refusals::Refusal;
 use refusals::refuse;

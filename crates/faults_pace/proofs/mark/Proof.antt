@@ -1,9 +1,9 @@
--- `characters_pace::mark` meets its contract, by the answer of the test.
+-- `faults_pace::mark` meets its contract, by the answer of the test.
 -- Assumes nothing.
 use mathlib.Core.Path.{sym, _∙_}
 use borrow.Author.Needs.{needs}
-use Rattle.characters_pace.proofs.mark.Statement.{statement}
-use Rattle.characters_pace.proofs.mark.Tie as tie
+use Rattle.faults_pace.proofs.mark.Statement.{statement}
+use Rattle.faults_pace.proofs.mark.Tie as tie
 
 is-hex-requires : tie.Need-is-hex-requires
 is-hex-requires c κs = search needs

@@ -1,9 +1,9 @@
--- `characters_pace::fault_of` meets its contract: the two tests of the characters.
+-- `faults_pace::fault_of` meets its contract: the two tests of the characters.
 -- Assumes nothing.
 use borrow.Author.Needs.{needs}
 use Rattle.characters_pace.specs.Characters.{faultOf}
-use Rattle.characters_pace.proofs.fault_of.Statement.{statement}
-use Rattle.characters_pace.proofs.fault_of.Tie as tie
+use Rattle.faults_pace.proofs.fault_of.Statement.{statement}
+use Rattle.faults_pace.proofs.fault_of.Tie as tie
 
 all-hex-requires : tie.Need-all-hex-requires
 all-hex-requires c κs = search needs

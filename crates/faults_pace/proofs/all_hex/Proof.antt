@@ -1,4 +1,4 @@
--- `characters_pace::all_hex` meets its contract. The loop's invariant: what is noted so far, with what is left, has the answer of the whole.
+-- `faults_pace::all_hex` meets its contract. The loop's invariant: what is noted so far, with what is left, has the answer of the whole.
 -- Assumes nothing.
 use Prim.Native.Nat.{_-_, _≤_, _<_}
 use mathlib.Core.Path.{_≡_, refl}
@@ -6,12 +6,12 @@ use mathlib.Core.Bool.{_&&_}
 use lib.ListN.{length, getD, drop}
 use lib.Dec.{eqb}
 use Rattle.digits.specs.Hexes.{digitOf}
 use Rattle.characters_pace.specs.Characters.{isValue, allHex}
 use Rattle.characters_pace.proofs.Tests.{noted-small, all-noted, noted-ended}
 use borrow.Author.Needs.{needs}
 use native.Mathlib.Omega.{arith}
-use Rattle.characters_pace.proofs.all_hex.Statement.{statement}
-use Rattle.characters_pace.proofs.all_hex.Tie as tie
+use Rattle.faults_pace.proofs.all_hex.Statement.{statement}
+use Rattle.faults_pace.proofs.all_hex.Tie as tie
 
 abbrev Inv-loop : tie.InvT-loop
 Inv-loop s wrong₀ i₀ wrong i = (i ≤ length s) × (wrong < 2) × (eqb wrong 0 && allHex (drop i s) ≡ allHex s)

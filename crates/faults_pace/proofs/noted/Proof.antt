@@ -1,4 +1,4 @@
--- `characters_pace::noted` meets its contract: four cases of two bits.
+-- `faults_pace::noted` meets its contract: four cases of two bits.
 -- Assumes nothing.
 use Prim.Native.Nat.{ℕ, zero, suc, _<_}
 use mathlib.Core.Path.{_≡_, refl}
@@ -7,10 +7,10 @@ use native.Mathlib.Omega.{arith}
 use lib.Bits.{bitOr}
 use Rattle.digits.specs.Hexes.{digitOf}
 use Rattle.laws.specs.Choice.{pick}
 use Rattle.characters_pace.specs.Characters.{isValue}
 use borrow.Author.Needs.{needs}
-use Rattle.characters_pace.proofs.noted.Statement.{statement}
-use Rattle.characters_pace.proofs.noted.Tie as tie
+use Rattle.faults_pace.proofs.noted.Statement.{statement}
+use Rattle.faults_pace.proofs.noted.Tie as tie
 
 -- two bits, one of which says that a test failed
 either : (a : ℕ) (t : Bool) → a < 2 → bitOr a (pick t 0 1) ≡ pick t a 1

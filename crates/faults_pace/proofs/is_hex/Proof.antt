@@ -1,10 +1,10 @@
--- `characters_pace::is_hex` meets its contract: the reading of the digit tells.
+-- `faults_pace::is_hex` meets its contract: the reading of the digit tells.
 -- Assumes nothing.
 use mathlib.Core.Path.{sym, ap, _∙_}
 use Rattle.characters_pace.specs.Characters.{isValue}
 use borrow.Author.Needs.{needs}
-use Rattle.characters_pace.proofs.is_hex.Statement.{statement}
-use Rattle.characters_pace.proofs.is_hex.Tie as tie
+use Rattle.faults_pace.proofs.is_hex.Statement.{statement}
+use Rattle.faults_pace.proofs.is_hex.Tie as tie
 
 read-digit-requires : tie.Need-read-digit-requires
 read-digit-requires c κs = search needs

@@ -1,8 +1,8 @@
--- `characters_pace::first_fault` meets its contract: by the two tests, in their order.
+-- `faults_pace::first_fault` meets its contract: by the two tests, in their order.
 -- Assumes nothing.
 use borrow.Author.Tests.{not-true, not-false}
-use Rattle.characters_pace.proofs.first_fault.Statement.{statement}
-use Rattle.characters_pace.proofs.first_fault.Tie as tie
+use Rattle.faults_pace.proofs.first_fault.Statement.{statement}
+use Rattle.faults_pace.proofs.first_fault.Tie as tie
 
 returns : tie.Need-returns
 returns c = rw (not-true (c .before .args .hex) (c .if1 .taken))
