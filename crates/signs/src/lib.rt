@@ -1,4 +1,4 @@
-// Two's complement: signed numbers from 8, 16 and 32 bits, and the 16 or 32 bits of one (01: "in two's complement for signed types").
+// Two's complement: signed numbers from 8, 16 and 32 bits, and the 32 bits of one (01: "in two's complement for signed types").
 ghost use mathlib.Core.Path.{_≡_};
 ghost use Rattle.signs.specs.Signed.{signedOf, bitsOf};
 
@@ -28,17 +28,6 @@ pub fn signed32(n: u32) -> i32
         n as i32
     } else {
         !((4294967295 - n) as i32)
-    }
-}
-
-// The 16 bits of v.
-pub fn bits16(v: i16) -> u16
-    ensures { λ r. ⌜ r ≡ bitsOf 16 v ⌝ }
-{
-    if 0 <= v {
-        v as u16
-    } else {
-        65535 - (!v) as u16
     }
 }
 

@@ -58,15 +58,19 @@ fn field(name: &[u8], n: u64) {
     put(b"\n");
 }
 
-// The same of a number that may be negative: its 16 bits say whether it is.
+// The same of a number that may be negative: its 32 bits say whether it is.
 fn signed_field(name: &[u8], v: i16) {
     put(name);
-    let n = signs::bits16(v) as u64;
-    if n < 32768 {
-        field(b"", n);
+    let n = signs::bits32(wider(v));
+    if n < 2147483648 {
+        field(b"", n as u64);
     } else {
-        field(b"-", 65536 - n);
+        field(b"-", 4294967296 - n as u64);
     }
+}
+
+fn wider(v: i16) -> i32 {
+    v as i32
 }
 
 fn wide(v: i8) -> i16 {
