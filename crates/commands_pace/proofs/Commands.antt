@@ -12,9 +12,9 @@ use lib.Seq.{drop-cons}
 use Rattle.laws.specs.Choice.{pick}
 use Rattle.commands_pace.specs.declared.Command.{Command}
 use Rattle.commands_pace.specs.declared.Command.the-variants.{Analog, Warnings, Hardware, Serial, Reads, Writes, Unlisted}
-use Rattle.commands_pace.specs.declared.Setting.{Setting}
-use Rattle.commands_pace.specs.declared.Setting.the-variants.{Overvoltage, Discharge}
-use Rattle.commands_pace.specs.Settings.{settings, layoutOf}
+use Rattle.layouts_pace.specs.declared.Setting.{Setting}
+use Rattle.layouts_pace.specs.declared.Setting.the-variants.{Overvoltage, Discharge}
+use Rattle.layouts_pace.specs.Settings.{settings, layoutOf}
 use Rattle.commands_pace.specs.Commands.{bySetting, commandOf}
 
 -- no two settings share a command, and none has one of the other four

@@ -7,8 +7,8 @@ use lib.Dec.{eqb}
 use Rattle.laws.specs.Choice.{pick}
 use Rattle.commands_pace.specs.declared.Command.{Command}
 use Rattle.commands_pace.specs.declared.Command.the-variants.{Analog, Warnings, Hardware, Serial, Reads, Writes, Unlisted}
-use Rattle.commands_pace.specs.declared.Setting.{Setting}
-use Rattle.commands_pace.specs.Settings.{settings, layoutOf}
+use Rattle.layouts_pace.specs.declared.Setting.{Setting}
+use Rattle.layouts_pace.specs.Settings.{settings, layoutOf}
 
 -- the setting that a command reads or writes
 unfoldable pub bySetting : List Setting → ℕ → Command

@@ -6,8 +6,8 @@ use Prim.Native.Nat.{ℕ, _+_, _≤_, _<_}
 use lib.IntN.{ℤ, pos}
 use lib.ListN.{length, length-map}
 use Rattle.refusals.specs.Refused.{room}
-use Rattle.commands_pace.specs.declared.Values.{Values}
-use Rattle.commands_pace.specs.declared.Values.the-variants.{CellOvervoltage, SlowDischarge}
+use Rattle.layouts_pace.specs.declared.Values.{Values}
+use Rattle.layouts_pace.specs.declared.Values.the-variants.{CellOvervoltage, SlowDischarge}
 use Rattle.exports_parts.specs.Parts.{placed}
 use Rattle.exports_answers.specs.Told.{codedAs, roomCode, codeOf, over, rowAfter, joined}
 use Rattle.exports_answers.proofs.Placing.{total, Sizes, parts-told, parts-untold}

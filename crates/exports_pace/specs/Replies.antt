@@ -6,8 +6,8 @@ use lib.IntN.{ℤ, pos}
 use lib.ListN.{take}
 use Rattle.analog_pace.specs.declared.Analog.{Analog}
 use Rattle.warnings_pace.specs.declared.Warnings.{Warnings}
-use Rattle.commands_pace.specs.declared.Values.{Values}
-use Rattle.commands_pace.specs.declared.Values.the-variants.{CellOvervoltage, SlowDischarge}
+use Rattle.layouts_pace.specs.declared.Values.{Values}
+use Rattle.layouts_pace.specs.declared.Values.the-variants.{CellOvervoltage, SlowDischarge}
 use Rattle.payloads_pace.specs.declared.Answer.{Answer}
 use Rattle.payloads_pace.specs.declared.Answer.the-variants as is
 use Rattle.payloads_pace.specs.declared.Reply.{Reply}

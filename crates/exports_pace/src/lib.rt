@@ -1,13 +1,13 @@
 // PACE's replies for other languages (`rt staticlib exports_pace`): numbers and slices only, each call safe with any input.
 // `specs/Replies.antt` says which number an answer goes out as, and at which place of the row each of its values stands.
 use analog_pace::Analog;
-use commands_pace::Values;
 use exports_answers::coded;
 use exports_answers::put_numbers;
 use exports_answers::put_text;
 use exports_parts::put_i32;
 use exports_parts::put_u8;
 use exports_parts::put_u16;
+use layouts_pace::Values;
 use payloads_pace::Answer;
 use payloads_pace::Reply;
 use records_pace::read_reply;

@@ -3,8 +3,8 @@
 use Prim.Native.Nat.{ℕ}
 use mathlib.Core.List.{[], _∷_}
 use lib.IntN.{pos}
-use Rattle.commands_pace.specs.declared.Values.{Values}
-use Rattle.commands_pace.specs.declared.Values.the-variants.{CellOvervoltage, SlowDischarge}
+use Rattle.layouts_pace.specs.declared.Values.{Values}
+use Rattle.layouts_pace.specs.declared.Values.the-variants.{CellOvervoltage, SlowDischarge}
 use Rattle.requests_pace.specs.declared.Request.{Request}
 use Rattle.requests_pace.specs.declared.Request.the-variants.{Ask, Set}
 use Rattle.requests_read_pace.specs.declared.Parsed.{Parsed}

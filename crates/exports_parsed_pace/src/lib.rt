@@ -1,7 +1,7 @@
 // PACE's requests, read, for other languages (`rt staticlib exports_parsed_pace`): numbers and slices only, the call safe with any input.
 // `specs/Requests.antt` says which number a request goes out as, and at which place of the row each of its values stands.
-use commands_pace::Values;
 use exports_answers::put_numbers;
+use layouts_pace::Values;
 use requests_pace::Request;
 use requests_read_pace::Parsed;
 use requests_read_pace::read_request;

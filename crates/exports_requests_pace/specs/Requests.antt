@@ -1,6 +1,6 @@
 -- PACE requests for a language that shares no enum: a setting by its numbers. Assumes nothing.
 use Prim.Native.Nat.{ℕ}
-use Rattle.commands_pace.specs.declared.Values.the-variants.{CellOvervoltage, SlowDischarge}
+use Rattle.layouts_pace.specs.declared.Values.the-variants.{CellOvervoltage, SlowDischarge}
 use Rattle.requests_pace.specs.declared.Request.{Request}
 use Rattle.requests_pace.specs.declared.Request.the-variants.{Set}
 

@@ -1,7 +1,7 @@
 // PACE's requests, written, for other languages (`rt staticlib exports_requests_pace`): numbers and slices only, each call safe with any input.
 // `specs/Requests.antt` says which request the numbers of a setting are.
-use commands_pace::Values;
 use exports_answers::written_number;
+use layouts_pace::Values;
 use requests_pace::Request;
 use requests_pace::write_request;
 ghost use mathlib.Core.Path.{_≡_};

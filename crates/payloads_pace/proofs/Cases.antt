@@ -14,7 +14,7 @@ use Rattle.characters_pace.specs.Characters.{bytesIn, bytesAt, checkedInfo}
 use Rattle.characters_pace.proofs.Checked.{checked-next}
 use Rattle.commands_pace.specs.declared.Command.{Command}
 use Rattle.commands_pace.specs.declared.Command.the-variants as command
-use Rattle.commands_pace.specs.declared.Setting.{Setting}
+use Rattle.layouts_pace.specs.declared.Setting.{Setting}
 use Rattle.commands_pace.specs.Commands.{listed}
 use Rattle.settings_pace.specs.declared.Found.the-variants as setting
 use Rattle.settings_pace.specs.Reading as settings

@@ -3,8 +3,8 @@
 use analog_pace::Analog;
 use analog_pace::read_analog;
 use commands_pace::Command;
-use commands_pace::Values;
 use faults_pace::fault_of;
+use layouts_pace::Values;
 use lists_pace::bytes_of;
 use refusals::Refusal;
 use refusals::refuse;

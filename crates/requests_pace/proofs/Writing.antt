@@ -18,7 +18,7 @@ use Rattle.orders.proofs.Answers as orders
 use Rattle.frames_written_pace.specs.Written.{frameChars, framedAs}
 use Rattle.frames_written_pace.proofs.Writing.{chars-length}
 use Rattle.writes_pace.specs.declared.Info.{Info}
-use Rattle.commands_pace.specs.declared.Values.{Values}
+use Rattle.layouts_pace.specs.declared.Values.{Values}
 use Rattle.commands_pace.specs.Commands.{commandOf}
 use Rattle.writes_pace.specs.Allowed.{allowedOf}
 use Rattle.writes_pace.specs.Info as writes

@@ -1,10 +1,10 @@
 // PACE requests (004; 01, PACE), written as frames: 42 and 44 with the address as their one INFO byte; C1, C2, D1, DB without INFO; D0 and DA with values.
 // `requests_read_pace` reads them.
 use commands_pace::Command;
-use commands_pace::Setting;
-use commands_pace::Values;
 use commands_pace::command_of;
 use frames_written_pace::write_frame;
+use layouts_pace::Setting;
+use layouts_pace::Values;
 use orders::writing;
 use refusals::Written;
 use refusals::refuse;

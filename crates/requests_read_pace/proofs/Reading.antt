@@ -13,7 +13,7 @@ use Rattle.refusals.specs.Refused.{refusedWith, request, shape}
 use Rattle.characters_pace.specs.Characters.{allHex, bytesIn, faultOf, checkedInfo}
 use Rattle.frames_pace.specs.declared.Frame.the-variants as frame
 use Rattle.frames_pace.specs.Frame as frames
-use Rattle.commands_pace.specs.declared.Setting.{Setting}
+use Rattle.layouts_pace.specs.declared.Setting.{Setting}
 use Rattle.commands_pace.specs.Commands.{commandOf}
 use Rattle.settings_pace.specs.declared.Found.the-variants as setting
 use Rattle.settings_pace.specs.Reading as settings

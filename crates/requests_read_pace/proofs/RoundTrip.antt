@@ -30,14 +30,14 @@ use Rattle.frames_pace.proofs.Whole.{whole-says}
 use Rattle.frames_written_pace.proofs.Writing.{chars-length}
 use Rattle.commands_pace.specs.declared.Command.{Command}
 use Rattle.commands_pace.specs.declared.Command.the-variants as command
-use Rattle.commands_pace.specs.declared.Setting.{Setting}
-use Rattle.commands_pace.specs.declared.Values.{Values}
+use Rattle.layouts_pace.specs.declared.Setting.{Setting}
+use Rattle.layouts_pace.specs.declared.Values.{Values}
 use Rattle.commands_pace.specs.Commands.{commandOf}
-use Rattle.commands_pace.specs.Settings.{layoutOf, settingOf}
+use Rattle.layouts_pace.specs.Settings.{layoutOf, settingOf}
 use Rattle.writes_pace.specs.Allowed.{allowedOf}
 use Rattle.writes_pace.specs.Info as writes
 use Rattle.commands_pace.proofs.Commands.{writes-itself, writes-only}
-use Rattle.commands_pace.proofs.Settings.{writes-small}
+use Rattle.layouts_pace.proofs.Settings.{writes-small}
 use Rattle.settings_pace.specs.declared.Found.{Found}
 use Rattle.settings_pace.specs.declared.Found.the-variants as setting
 use Rattle.settings_pace.specs.Reading as settings

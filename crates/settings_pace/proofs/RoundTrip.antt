@@ -17,15 +17,15 @@ use Rattle.numbers.proofs.Orders.{Bytes}
 use Rattle.refusals.specs.declared.Refusal.{Refusal}
 use Rattle.characters_pace.specs.Characters.{allOf, halves, wordAt, wordsAt}
 use Rattle.characters_pace.proofs.Halves.{halves-length}
-use Rattle.commands_pace.specs.declared.Setting.{Setting}
-use Rattle.commands_pace.specs.declared.Layout.{Layout}
-use Rattle.commands_pace.specs.declared.Values.{Values}
+use Rattle.layouts_pace.specs.declared.Setting.{Setting}
+use Rattle.layouts_pace.specs.declared.Layout.{Layout}
+use Rattle.layouts_pace.specs.declared.Values.{Values}
 use Rattle.settings_pace.specs.declared.Found.the-variants.{Set, Refused}
-use Rattle.commands_pace.specs.Settings.{layoutOf, settingOf, amountsOf, delayOf, valuesOf}
+use Rattle.layouts_pace.specs.Settings.{layoutOf, settingOf, amountsOf, delayOf, valuesOf}
 use Rattle.writes_pace.specs.Allowed.{inSteps, allowed, allowedOf}
 use Rattle.writes_pace.specs.Info.{pairsOf, payload, infoOf}
 use Rattle.settings_pace.specs.Reading.{shaped, wordsIn, delayIn, requestOf}
-use Rattle.commands_pace.proofs.Settings.{few, highs, leads, amounts-count, values-again, setting-again, delay-again, amounts-again}
+use Rattle.layouts_pace.proofs.Settings.{few, highs, leads, amounts-count, values-again, setting-again, delay-again, amounts-again}
 
 -- ---- two bytes at a time
 

@@ -11,14 +11,14 @@ use Rattle.laws.proofs.Filling.{front-length, front-filled, front-taken, front-
 use Rattle.laws.proofs.Firsts.{firsts-length}
 use Rattle.refusals.specs.Refused.{refusedWith, shape, range}
 use Rattle.characters_pace.specs.Characters.{allOf, wordAt, wordsAt}
-use Rattle.commands_pace.specs.declared.Setting.{Setting}
-use Rattle.commands_pace.specs.declared.Layout.{Layout}
-use Rattle.commands_pace.specs.declared.Values.{Values}
+use Rattle.layouts_pace.specs.declared.Setting.{Setting}
+use Rattle.layouts_pace.specs.declared.Layout.{Layout}
+use Rattle.layouts_pace.specs.declared.Values.{Values}
 use Rattle.settings_pace.specs.declared.Found.the-variants.{Set, Refused}
-use Rattle.commands_pace.specs.Settings.{layoutOf, valuesOf}
+use Rattle.layouts_pace.specs.Settings.{layoutOf, valuesOf}
 use Rattle.writes_pace.specs.Allowed.{allowedOf}
 use Rattle.settings_pace.specs.Reading.{shaped, wordsIn, delayIn, amountOf, isAmount, amountIn, replyOf, requestOf}
-use Rattle.commands_pace.proofs.Settings.{few, values-front}
+use Rattle.layouts_pace.proofs.Settings.{few, values-front}
 
 -- what a word of a reply becomes
 abbrev pub turns : Layout → ℕ → ℕ

@@ -10,9 +10,9 @@ use Rattle.laws.specs.Choice.{pick}
 use Rattle.signs.specs.Signed.{signedOf}
 use Rattle.refusals.specs.Refused.{refusedWith, shape, range}
 use Rattle.characters_pace.specs.Characters.{allOf, wordsAt}
-use Rattle.commands_pace.specs.declared.Setting.{Setting}
-use Rattle.commands_pace.specs.declared.Layout.{Layout}
-use Rattle.commands_pace.specs.Settings.{layoutOf, valuesOf}
+use Rattle.layouts_pace.specs.declared.Setting.{Setting}
+use Rattle.layouts_pace.specs.declared.Layout.{Layout}
+use Rattle.layouts_pace.specs.Settings.{layoutOf, valuesOf}
 use Rattle.writes_pace.specs.Allowed.{allowedOf}
 use Rattle.settings_pace.specs.declared.Amount.{Amount}
 use Rattle.settings_pace.specs.declared.Amount.the-variants.{Is, Positive}

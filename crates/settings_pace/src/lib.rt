@@ -1,12 +1,12 @@
 // PACE settings in INFO: the values of a reply and those of a request (004, "Parameter Setting" tab; 01, PACE).
 // INFO comes as characters; where they are no bytes that is refused first, and the rest is said of the bytes that they carry.
 use characters_pace::byte_of;
-use commands_pace::Layout;
-use commands_pace::Setting;
-use commands_pace::Values;
-use commands_pace::layout_of;
-use commands_pace::values_of;
 use faults_pace::fault_of;
+use layouts_pace::Layout;
+use layouts_pace::Setting;
+use layouts_pace::Values;
+use layouts_pace::layout_of;
+use layouts_pace::values_of;
 use lists_pace::words_of;
 use refusals::Refusal;
 use refusals::refuse;

@@ -12,7 +12,7 @@ use Rattle.functions_tongzhu.specs.Functions.{kindOf}
 use Rattle.frames_written_tongzhu.specs.Writing.{frameBytes}
 use Rattle.requests_tongzhu.specs.Requests.{faultOf}
 use Rattle.characters_pace.specs.Characters.{allOf, halves}
-use Rattle.commands_pace.specs.Settings.{layoutOf}
+use Rattle.layouts_pace.specs.Settings.{layoutOf}
 use Rattle.writes_pace.specs.Info.{payload}
 use Rattle.settings_pace.specs.Reading.{shaped, amountOf, replyOf}
 use Rattle.analog_pace.specs.Analog.{tenthsOf}

@@ -16,8 +16,8 @@ use Rattle.requests_tongzhu.specs.declared.Request.{Request}
 use Rattle.requests_tongzhu.specs.declared.Request.the-variants.{Ask, SetTime}
 use Rattle.requests_tongzhu.specs.Requests.{frameFor, faultOf}
 use Rattle.characters_pace.specs.Characters.{hexed}
-use Rattle.commands_pace.specs.declared.Setting.the-variants.{Discharge}
-use Rattle.commands_pace.specs.Settings.{amountsOf}
+use Rattle.layouts_pace.specs.declared.Setting.the-variants.{Discharge}
+use Rattle.layouts_pace.specs.Settings.{amountsOf}
 use Rattle.writes_pace.specs.Info.{infoOf}
 use Rattle.settings_pace.specs.declared.Found.{Found}
 use Rattle.settings_pace.specs.declared.Found.the-variants.{Set, Refused}

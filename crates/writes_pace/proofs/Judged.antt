@@ -12,12 +12,12 @@ use Rattle.laws.proofs.Filling.{one-more, part-more, front-taken}
 use Rattle.characters_pace.specs.Characters.{allOf}
 use Rattle.characters_pace.proofs.Halves.{halves-length}
 use Rattle.writes_pace.specs.declared.Info.{Info}
-use Rattle.commands_pace.specs.declared.Layout.{Layout}
-use Rattle.commands_pace.specs.declared.Values.{Values}
-use Rattle.commands_pace.specs.Settings.{layoutOf, settingOf, amountsOf, delayOf}
+use Rattle.layouts_pace.specs.declared.Layout.{Layout}
+use Rattle.layouts_pace.specs.declared.Values.{Values}
+use Rattle.layouts_pace.specs.Settings.{layoutOf, settingOf, amountsOf, delayOf}
 use Rattle.writes_pace.specs.Allowed.{inSteps, allowed, allowedOf}
 use Rattle.writes_pace.specs.Info.{pairsOf, payload, infoOf, infoRecord}
-use Rattle.commands_pace.proofs.Settings.{few, steps, amounts-count}
+use Rattle.layouts_pace.proofs.Settings.{few, steps, amounts-count}
 
 -- ---- may they be written?
 

@@ -5,9 +5,9 @@ use mathlib.Core.List.{List}
 use Prim.Native.Nat.{ℕ, _-_, _%_}
 use lib.Dec.{leb, eqb}
 use Rattle.characters_pace.specs.Characters.{allOf}
-use Rattle.commands_pace.specs.declared.Layout.{Layout}
-use Rattle.commands_pace.specs.declared.Values.{Values}
-use Rattle.commands_pace.specs.Settings.{layoutOf, settingOf, amountsOf, delayOf}
+use Rattle.layouts_pace.specs.declared.Layout.{Layout}
+use Rattle.layouts_pace.specs.declared.Values.{Values}
+use Rattle.layouts_pace.specs.Settings.{layoutOf, settingOf, amountsOf, delayOf}
 
 -- from low to high in steps
 abbrev pub inSteps : ℕ → ℕ → ℕ → ℕ → Bool

@@ -5,9 +5,9 @@ use Prim.Native.Nat.{ℕ, _/_, _%_}
 use lib.ListN.{length, drop, replicate}
 use Rattle.characters_pace.specs.Characters.{halves}
 use Rattle.writes_pace.specs.declared.Info.{Info}
-use Rattle.commands_pace.specs.declared.Layout.{Layout}
-use Rattle.commands_pace.specs.declared.Values.{Values}
-use Rattle.commands_pace.specs.Settings.{layoutOf, settingOf, amountsOf, delayOf}
+use Rattle.layouts_pace.specs.declared.Layout.{Layout}
+use Rattle.layouts_pace.specs.declared.Values.{Values}
+use Rattle.layouts_pace.specs.Settings.{layoutOf, settingOf, amountsOf, delayOf}
 
 -- numbers as two bytes each
 abbrev pub pairsOf : List ℕ → List ℕ

@@ -1,8 +1,8 @@
 // Writing a PACE setting: whether its values may be written, and the INFO of the request that writes them, by its layout (004, "Parameter
 // Setting" tab; 01, PACE).
-use commands_pace::Setting;
-use commands_pace::Values;
-use commands_pace::layout_of;
+use layouts_pace::Setting;
+use layouts_pace::Values;
+use layouts_pace::layout_of;
 use numbers::Order;
 use numbers_written::bytes16;
 ghost use mathlib.Core.Path.{_≡_};
@@ -10,7 +10,7 @@ ghost use mathlib.Core.List.{_++_};
 ghost use Prim.Native.Nat.{_*_, _<_};
 ghost use lib.ListN.{length, drop, replicate};
 ghost use Rattle.characters_pace.specs.Characters.{allOf};
-ghost use Rattle.commands_pace.specs.Settings.{settingOf, amountsOf, delayOf};
+ghost use Rattle.layouts_pace.specs.Settings.{settingOf, amountsOf, delayOf};
 ghost use Rattle.writes_pace.specs.Allowed.{inSteps, allowedOf};
 ghost use Rattle.writes_pace.specs.Info.{pairsOf, infoRecord};
 

@@ -4,8 +4,8 @@ use Prim.Native.Nat.{_-_}
 use mathlib.Core.Path.{_≡_, refl, sym, ap, _∙_}
 use native.Mathlib.Omega.{arith}
 use lib.ListN.{length, drop}
-use Rattle.commands_pace.specs.declared.Layout.{Layout}
-use Rattle.commands_pace.specs.Settings.{settings}
+use Rattle.layouts_pace.specs.declared.Layout.{Layout}
+use Rattle.layouts_pace.specs.Settings.{settings}
 use Rattle.commands_pace.specs.Commands.{bySetting}
 use Rattle.commands_pace.proofs.Commands.{reads-here, writes-here, neither-here, none-left}
 use borrow.Author.Needs.{needs}

@@ -4,7 +4,7 @@ use Prim.Native.Nat.{_≤_}
 use mathlib.Core.Path.{_≡_, ap, _∙_}
 use native.Mathlib.Omega.{arith}
 use lib.ListN.{length}
-use Rattle.commands_pace.specs.Settings.{layoutOf, settingOf}
+use Rattle.layouts_pace.specs.Settings.{layoutOf, settingOf}
 use Rattle.writes_pace.proofs.Judged.{layout-few, info-is}
 use borrow.Author.Needs.{needs}
 use Rattle.writes_pace.proofs.info_of.Statement.{statement}

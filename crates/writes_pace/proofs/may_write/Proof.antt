@@ -4,7 +4,7 @@ use lib.ListN.{length}
 use mathlib.Core.Path.{_≡_, ap, _∙_}
 use native.Mathlib.Omega.{arith}
 use borrow.Author.Tests.{not-true, not-false}
-use Rattle.commands_pace.specs.Settings.{layoutOf, settingOf}
+use Rattle.layouts_pace.specs.Settings.{layoutOf, settingOf}
 use Rattle.writes_pace.proofs.Judged.{layout-few, layout-steps, amounts-decide, delay-decides}
 use borrow.Author.Needs.{needs}
 use Rattle.writes_pace.proofs.may_write.Statement.{statement}

@@ -1,8 +1,8 @@
--- `commands_pace::values_of` meets its contract: by the setting.
+-- `layouts_pace::values_of` meets its contract: by the setting.
 -- Assumes nothing.
 use borrow.Author.Needs.{needs}
-use Rattle.commands_pace.proofs.values_of.Statement.{statement}
-use Rattle.commands_pace.proofs.values_of.Tie as tie
+use Rattle.layouts_pace.proofs.values_of.Statement.{statement}
+use Rattle.layouts_pace.proofs.values_of.Tie as tie
 
 enum-told : tie.Need-enum-told
 enum-told c = search needs

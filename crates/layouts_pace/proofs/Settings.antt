@@ -11,12 +11,12 @@ use lib.ListN.{length, getD, List·getD-append}
 use Rattle.laws.specs.Firsts.{firsts}
 use Rattle.laws.proofs.Firsts.{listed}
 use Rattle.laws.proofs.Ladders.{both}
-use Rattle.commands_pace.specs.declared.Layout.{Layout}
-use Rattle.commands_pace.specs.declared.Setting.{Setting}
-use Rattle.commands_pace.specs.declared.Setting.the-variants.{Overvoltage, Discharge}
-use Rattle.commands_pace.specs.declared.Values.{Values}
-use Rattle.commands_pace.specs.declared.Values.the-variants.{CellOvervoltage, SlowDischarge}
-use Rattle.commands_pace.specs.Settings.{layoutOf, settingOf, amountsOf, delayOf, valuesOf}
+use Rattle.layouts_pace.specs.declared.Layout.{Layout}
+use Rattle.layouts_pace.specs.declared.Setting.{Setting}
+use Rattle.layouts_pace.specs.declared.Setting.the-variants.{Overvoltage, Discharge}
+use Rattle.layouts_pace.specs.declared.Values.{Values}
+use Rattle.layouts_pace.specs.declared.Values.the-variants.{CellOvervoltage, SlowDischarge}
+use Rattle.layouts_pace.specs.Settings.{layoutOf, settingOf, amountsOf, delayOf, valuesOf}
 
 -- ---- numbers of a layout, tested all at once
 

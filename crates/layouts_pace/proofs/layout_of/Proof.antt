@@ -1,9 +1,9 @@
--- `commands_pace::layout_of` meets its contract: by the setting.
+-- `layouts_pace::layout_of` meets its contract: by the setting.
 -- Assumes nothing.
-use Rattle.commands_pace.specs.Settings.{layoutOf}
+use Rattle.layouts_pace.specs.Settings.{layoutOf}
 use borrow.Author.Needs.{needs}
-use Rattle.commands_pace.proofs.layout_of.Statement.{statement}
-use Rattle.commands_pace.proofs.layout_of.Tie as tie
+use Rattle.layouts_pace.proofs.layout_of.Statement.{statement}
+use Rattle.layouts_pace.proofs.layout_of.Tie as tie
 
 enum-told : tie.Need-enum-told
 enum-told c = search needs

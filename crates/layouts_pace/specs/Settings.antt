@@ -5,11 +5,11 @@ use mathlib.Core.Bool.{true, false}
 use mathlib.Core.List.{List, [], _∷_}
 use Prim.Native.Nat.{ℕ}
 use lib.ListN.{getD}
-use Rattle.commands_pace.specs.declared.Setting.{Setting}
-use Rattle.commands_pace.specs.declared.Setting.the-variants.{Overvoltage, Discharge}
-use Rattle.commands_pace.specs.declared.Layout.{Layout}
-use Rattle.commands_pace.specs.declared.Values.{Values}
-use Rattle.commands_pace.specs.declared.Values.the-variants.{CellOvervoltage, SlowDischarge}
+use Rattle.layouts_pace.specs.declared.Setting.{Setting}
+use Rattle.layouts_pace.specs.declared.Setting.the-variants.{Overvoltage, Discharge}
+use Rattle.layouts_pace.specs.declared.Layout.{Layout}
+use Rattle.layouts_pace.specs.declared.Values.{Values}
+use Rattle.layouts_pace.specs.declared.Values.the-variants.{CellOvervoltage, SlowDischarge}
 
 -- every setting
 unfoldable pub settings : List Setting
