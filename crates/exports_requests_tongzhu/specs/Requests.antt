@@ -1,28 +1,6 @@
--- Tongzhu requests for a language that shares no struct and no enum: a time by its six numbers; the kind of each request that is read, and
--- its values in the order of their places in the row. Assumes nothing.
+-- Tongzhu requests for a language that shares no struct: a time by its six numbers. Assumes nothing.
 use Prim.Native.Nat.{ℕ}
-use mathlib.Core.List.{List, [], _∷_}
-use lib.IntN.{ℤ, pos}
 use Rattle.times_tongzhu.specs.declared.Time.{Time}
-use Rattle.requests_tongzhu.specs.declared.Request.{Request}
-use Rattle.requests_tongzhu.specs.declared.Request.the-variants.{Ask, SetTime}
-use Rattle.requests_read_tongzhu.specs.declared.Parsed.{Parsed}
-use Rattle.requests_read_tongzhu.specs.declared.Parsed.the-variants.{Is, Refused}
-use Rattle.exports_answers.specs.Told.{Told, numbers, refused}
 
 abbrev pub timeOf : ℕ → ℕ → ℕ → ℕ → ℕ → ℕ → Time
 timeOf a b c d e f = record { year = a; month = b; day = c; hour = d; minute = e; second = f }
-
--- places 0 to 5: the time that function 30 sets
-abbrev pub timeNumbers : Time → List ℤ
-timeNumbers t =
-    pos (t .year) ∷ pos (t .month) ∷ pos (t .day) ∷ pos (t .hour) ∷ pos (t .minute) ∷ pos (t .second) ∷ []
-
--- 1 asks: the function; 2 sets the time
-abbrev pub requestTold : Request → Told
-requestTold (Ask function) = numbers 1 (pos function ∷ [])
-requestTold (SetTime t) = numbers 2 (timeNumbers t)
-
-abbrev pub toldRequest : Parsed → Told
-toldRequest (Is q) = requestTold q
-toldRequest (Refused why) = refused why

@@ -1,12 +1,12 @@
--- `exports_requests_pathfinder::tell_request` meets its contract: by what was read.
+-- `exports_parsed_pathfinder::tell_request` meets its contract: by what was read.
 -- Assumes nothing.
 use mathlib.Core.Path.{sym, ap, _∙_}
 use lib.ListN.{length}
 use Rattle.exports_answers.specs.Told.{codeOf, rowAfter}
-use Rattle.exports_requests_pathfinder.specs.Codes.{toldRequest}
+use Rattle.exports_parsed_pathfinder.specs.Requests.{toldRequest}
 use borrow.Author.Needs.{needs}
-use Rattle.exports_requests_pathfinder.proofs.tell_request.Statement.{statement}
-use Rattle.exports_requests_pathfinder.proofs.tell_request.Tie as tie
+use Rattle.exports_parsed_pathfinder.proofs.tell_request.Statement.{statement}
+use Rattle.exports_parsed_pathfinder.proofs.tell_request.Tie as tie
 
 enum-known-p : tie.Need-enum-known-p
 enum-known-p c = search needs

@@ -1,4 +1,4 @@
--- `exports_requests_tongzhu::put_request` meets its contract: by the request; the call that puts the values says the rest.
+-- `exports_parsed_tongzhu::put_request` meets its contract: by the request; the call that puts the values says the rest.
 -- Assumes nothing.
 use mathlib.Core.Path.{refl, sym, ap}
 use native.Mathlib.Omega.{arith}
@@ -6,10 +6,10 @@ use mir.Syntax.{w32}
 use mir.ValLaws.{toZ-pos}
 use Rattle.exports_answers.proofs.Same.{then}
 use Rattle.exports_answers.proofs.Telling.{told-numbers}
-use Rattle.exports_requests_tongzhu.specs.Requests.{requestTold}
+use Rattle.exports_parsed_tongzhu.specs.Requests.{requestTold}
 use borrow.Author.Needs.{needs}
-use Rattle.exports_requests_tongzhu.proofs.put_request.Statement.{statement}
-use Rattle.exports_requests_tongzhu.proofs.put_request.Tie as tie
+use Rattle.exports_parsed_tongzhu.proofs.put_request.Statement.{statement}
+use Rattle.exports_parsed_tongzhu.proofs.put_request.Tie as tie
 
 enum-known-q : tie.Need-enum-known-q
 enum-known-q c = search needs

@@ -1,12 +1,12 @@
--- `exports_requests_tongzhu::tracksaffron_tz_parse` meets its contract: what the request reader answers, told.
+-- `exports_parsed_tongzhu::tracksaffron_tz_parse` meets its contract: what the request reader answers, told.
 -- Assumes nothing.
 use mathlib.Core.Path.{sym, ap, _∙_}
 use Rattle.requests_read_tongzhu.specs.Reading.{parsedOf}
 use Rattle.exports_answers.proofs.Telling.{told-refused}
-use Rattle.exports_requests_tongzhu.specs.Requests.{toldRequest}
+use Rattle.exports_parsed_tongzhu.specs.Requests.{toldRequest}
 use borrow.Author.Needs.{needs}
-use Rattle.exports_requests_tongzhu.proofs.tracksaffron_tz_parse.Statement.{statement}
-use Rattle.exports_requests_tongzhu.proofs.tracksaffron_tz_parse.Tie as tie
+use Rattle.exports_parsed_tongzhu.proofs.tracksaffron_tz_parse.Statement.{statement}
+use Rattle.exports_parsed_tongzhu.proofs.tracksaffron_tz_parse.Tie as tie
 
 read-request-requires : tie.Need-read-request-requires
 read-request-requires c κs = search needs

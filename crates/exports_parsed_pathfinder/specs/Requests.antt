@@ -1,4 +1,4 @@
--- Pathfinder's requests, as they are read, for languages that share no enum (exports_answers, specs/Told.antt).
+-- Pathfinder requests that are read, for a language that shares no enum: the kind of each, and its values in the order of their places in the row.
 -- Assumes nothing.
 use mathlib.Core.List.{[], _∷_}
 use lib.IntN.{pos}

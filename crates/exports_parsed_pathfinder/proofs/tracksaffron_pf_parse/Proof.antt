@@ -1,12 +1,12 @@
--- `exports_requests_pathfinder::tracksaffron_pf_parse` meets its contract: the request that is read, told.
+-- `exports_parsed_pathfinder::tracksaffron_pf_parse` meets its contract: the request that is read, told.
 -- Assumes nothing.
 use mathlib.Core.Path.{ap, _∙_}
 use lib.ListN.{length}
 use Rattle.exports_answers.specs.Told.{codeOf, rowAfter}
-use Rattle.exports_requests_pathfinder.specs.Codes.{toldRequest}
+use Rattle.exports_parsed_pathfinder.specs.Requests.{toldRequest}
 use borrow.Author.Needs.{needs}
-use Rattle.exports_requests_pathfinder.proofs.tracksaffron_pf_parse.Statement.{statement}
-use Rattle.exports_requests_pathfinder.proofs.tracksaffron_pf_parse.Tie as tie
+use Rattle.exports_parsed_pathfinder.proofs.tracksaffron_pf_parse.Statement.{statement}
+use Rattle.exports_parsed_pathfinder.proofs.tracksaffron_pf_parse.Tie as tie
 
 read-request-requires : tie.Need-read-request-requires
 read-request-requires c κs = search needs

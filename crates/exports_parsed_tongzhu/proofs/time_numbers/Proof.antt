@@ -1,9 +1,9 @@
--- `exports_requests_tongzhu::time_numbers` meets its contract, number by number: each fits by what is known of the record.
+-- `exports_parsed_tongzhu::time_numbers` meets its contract, number by number: each fits by what is known of the record.
 -- Assumes nothing.
 use mathlib.Core.Path.{refl}
 use Rattle.widths.proofs.Widening.{fits, then}
-use Rattle.exports_requests_tongzhu.proofs.time_numbers.Statement.{statement}
-use Rattle.exports_requests_tongzhu.proofs.time_numbers.Tie as tie
+use Rattle.exports_parsed_tongzhu.proofs.time_numbers.Statement.{statement}
+use Rattle.exports_parsed_tongzhu.proofs.time_numbers.Tie as tie
 
 cast-t2 : tie.Need-cast-t2
 cast-t2 c = fits tt (c .struct-known .given .0)

@@ -1,4 +1,4 @@
--- `exports_requests_pathfinder::tell_fields` meets its contract: by the two kinds of request.
+-- `exports_parsed_pathfinder::tell_fields` meets its contract: by the two kinds of request.
 -- Assumes nothing.
 use Prim.Native.Nat.{_<_}
 use mathlib.Core.Path.{_≡_, refl, sym, ap}
@@ -7,10 +7,10 @@ use mir.Val.{toZ, ofZ}
 use mir.ValLaws.{toZ-pos}
 use Rattle.exports_answers.proofs.Same.{then}
 use Rattle.exports_answers.proofs.Telling.{told-numbers}
-use Rattle.exports_requests_pathfinder.specs.Codes.{toldFields}
+use Rattle.exports_parsed_pathfinder.specs.Requests.{toldFields}
 use borrow.Author.Needs.{needs}
-use Rattle.exports_requests_pathfinder.proofs.tell_fields.Statement.{statement}
-use Rattle.exports_requests_pathfinder.proofs.tell_fields.Tie as tie
+use Rattle.exports_parsed_pathfinder.proofs.tell_fields.Statement.{statement}
+use Rattle.exports_parsed_pathfinder.proofs.tell_fields.Tie as tie
 
 enum-known-q : tie.Need-enum-known-q
 enum-known-q c = search needs
