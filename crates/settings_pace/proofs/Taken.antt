@@ -1,17 +1,17 @@
--- What the reader knows of INFO at each place, as the definitions have it: the words stand in the array's front, and the values go by the front alone.
+-- What the reader knows of INFO at each place, as the definitions have it: three words are read, and the values go by the setting's own, at the front.
 -- Assumes nothing.
-use mathlib.Core.Path.{_≡_, sym, ap, ap₂, _∙_}
+use mathlib.Core.Path.{_≡_, refl, sym, ap, ap₂, _∙_}
 use mathlib.Core.Bool.{Bool, true, false}
-use mathlib.Core.List.{List, _++_, map}
+use mathlib.Core.List.{List, _++_, map, map-append}
 use Prim.Native.Nat.{ℕ, _+_, _-_, _*_, _≤_}
-use native.Mathlib.Omega.{arith}
-use borrow.Rule.Slice.PartMut.{putMid}
-use lib.ListN.{length, getD, take, drop, replicate, length-append, length-drop, length-map}
-use Rattle.laws.proofs.Filling.{front-length, front-filled, front-taken, front-again}
+use lib.ListN.{getD, take, drop, length-map}
+use Rattle.laws.specs.Firsts.{firsts}
+use Rattle.laws.proofs.Filling.{front-taken}
 use Rattle.laws.proofs.Firsts.{firsts-length}
 use Rattle.refusals.specs.Refused.{refusedWith, shape, range}
 use Rattle.characters_pace.specs.Characters.{allOf, wordAt, wordsAt}
 use Rattle.layouts_pace.specs.declared.Setting.{Setting}
+use Rattle.layouts_pace.specs.declared.Setting.the-variants.{Overvoltage, Discharge}
 use Rattle.layouts_pace.specs.declared.Layout.{Layout}
 use Rattle.layouts_pace.specs.declared.Values.{Values}
 use Rattle.settings_pace.specs.declared.Found.the-variants.{Set, Refused}
@@ -24,9 +24,29 @@ use Rattle.layouts_pace.proofs.Settings.{few, values-front}
 abbrev pub turns : Layout → ℕ → ℕ
 turns layout x = amountIn (amountOf (layout .negated) x)
 
--- the array before
-abbrev pub places : List ℕ
-places = replicate 3 0
+-- ---- of three words a setting has its own, at the front
+
+own-first : (s : Setting) (g : ℕ → ℕ) → firsts g 3 ≡ firsts g (layoutOf s .amounts) ++ drop (layoutOf s .amounts) (firsts g 3)
+unfolding layoutOf firsts
+own-first Overvoltage g = refl
+own-first Discharge g = refl
+
+module _ (s : Setting) (g : ℕ → ℕ) where
+  own-words : take (layoutOf s .amounts - 0) (firsts g 3) ≡ firsts g (layoutOf s .amounts)
+  own-words =
+      let n = layoutOf s .amounts in
+      ap (take (n - 0)) (own-first s g) ∙ front-taken n (drop n (firsts g 3)) (firsts g n) (firsts-length g n)
+
+  own-values : (k : ℕ) → valuesOf s (firsts g 3) k ≡ valuesOf s (firsts g (layoutOf s .amounts)) k
+  own-values k =
+      let n = layoutOf s .amounts in
+      ap (λ (l : List ℕ). valuesOf s l k) (own-first s g) ∙ values-front s (firsts g n) (drop n (firsts g 3)) k (firsts-length g n)
+
+  own-turned : (h : ℕ → ℕ) (k : ℕ) → valuesOf s (map h (firsts g 3)) k ≡ valuesOf s (map h (firsts g (layoutOf s .amounts))) k
+  own-turned h k =
+      let n = layoutOf s .amounts in
+      ap (λ (l : List ℕ). valuesOf s l k) (ap (map h) (own-first s g) ∙ map-append h (firsts g n) (drop n (firsts g 3)))
+      ∙ values-front s (map h (firsts g n)) (map h (drop n (firsts g 3))) k (length-map (firsts g n) h ∙ firsts-length g n)
 
 module _ (s : Setting) (layout : Layout) (r : layout ≡ layoutOf s) (d : List ℕ) where
   pub setting-few : layout .amounts ≤ 3
@@ -40,62 +60,34 @@ module _ (s : Setting) (layout : Layout) (r : layout ≡ layoutOf s) (d : List �
   unfolding requestOf
   misparsed t e f = let off : shaped (layoutOf s) d ≡ false = ap (λ (q : Layout). shaped q d) (sym r) ∙ sym e ∙ f in rw off
 
-  module _ (t : Bool) (e : t ≡ shaped layout d) (f : t ≡ true) (ws : List ℕ) (w : ws ≡ wordsAt 1 (length (take (layout .amounts - 0) places)) d) where
+  module _ (t : Bool) (e : t ≡ shaped layout d) (f : t ≡ true) (ws : List ℕ) (w : ws ≡ wordsAt 1 3 d) where
     right : shaped (layoutOf s) d ≡ true
     right = ap (λ (q : Layout). shaped q d) (sym r) ∙ sym e ∙ f
 
-    words : ws ≡ wordsIn layout d
-    words = w ∙ ap (λ (k : ℕ). wordsAt 1 k d) (front-length (layout .amounts) places setting-few)
-
-    words-count : length ws ≡ layout .amounts
-    words-count = ap length words ∙ firsts-length (λ i. wordAt d (1 + 2 * i)) (layout .amounts)
-
-    -- the array after the words were read into its front
-    pub filled : putMid 0 (layout .amounts - 0) places ws ≡ ws ++ drop (layout .amounts) places
-    filled = front-filled (layout .amounts) places ws
-
-    pub filled-length : length (putMid 0 (layout .amounts - 0) places ws) ≡ 3
-    filled-length =
-        let rest = length-drop (layout .amounts) places in
-        ap length filled ∙ length-append ws (drop (layout .amounts) places) ∙ omega (arith, words-count, setting-few)
-
-    front : take (layout .amounts - 0) (putMid 0 (layout .amounts - 0) places ws) ≡ wordsIn layout d
-    front = ap (take (layout .amounts - 0)) filled ∙ front-taken (layout .amounts) (drop (layout .amounts) places) ws words-count ∙ words
-
-    module _ (u : Bool) (g : u ≡ allOf (λ x. isAmount (amountOf (layout .negated) x)) (take (layout .amounts - 0) (putMid 0 (layout .amounts - 0) places ws))) where
+    module _ (u : Bool) (g : u ≡ allOf (λ x. isAmount (amountOf (layout .negated) x)) (take (layout .amounts - 0) ws)) where
       readable : allOf (λ x. isAmount (amountOf (layoutOf s .negated) x)) (wordsIn (layoutOf s) d) ≡ u
       readable =
-          sym (g ∙ ap (allOf (λ x. isAmount (amountOf (layout .negated) x))) front
-          ∙ ap (λ (q : Layout). allOf (λ x. isAmount (amountOf (q .negated) x)) (wordsIn q d)) r)
+          sym (g ∙ ap₂ (λ (q : Layout) (l : List ℕ). allOf (λ x. isAmount (amountOf (q .negated) x)) (take (q .amounts - 0) l)) r w
+          ∙ ap (allOf (λ x. isAmount (amountOf (layoutOf s .negated) x))) (own-words s (λ i. wordAt d (1 + 2 * i))))
 
       pub unread : u ≡ false → Refused (refusedWith range) ≡ replyOf s d
       unfolding replyOf
       unread h = let off = readable ∙ h in rw (right, off)
 
-      pub read : u ≡ true → (ys : List ℕ) (k : ℕ)
-          → ys ≡ map (turns layout) (take (layout .amounts - 0) (putMid 0 (layout .amounts - 0) places ws))
-          → k ≡ getD d (2 * layout .amounts + 1) 0
-          → Set (valuesOf s (putMid 0 (layout .amounts - 0) (putMid 0 (layout .amounts - 0) places ws) ys) k) ≡ replyOf s d
+      pub read : u ≡ true → (ys : List ℕ) (k : ℕ) → ys ≡ map (turns layout) ws → k ≡ getD d (2 * layout .amounts + 1) 0 → Set (valuesOf s ys k) ≡ replyOf s d
       unfolding replyOf
       read h ys k y z =
           let on = readable ∙ h in
-          let turned : ys ≡ map (turns (layoutOf s)) (wordsIn (layoutOf s) d) = y ∙ ap (map (turns layout)) front ∙ ap (λ (q : Layout). map (turns q) (wordsIn q d)) r in
-          let size : length ys ≡ layoutOf s .amounts =
-          ap length turned ∙ length-map (wordsIn (layoutOf s) d) (turns (layoutOf s)) ∙ firsts-length (λ i. wordAt d (1 + 2 * i)) (layoutOf s .amounts) in
-          let after : putMid 0 (layout .amounts - 0) (putMid 0 (layout .amounts - 0) places ws) ys ≡ ys ++ drop (layout .amounts) places =
-          ap (λ (l : List ℕ). putMid 0 (layout .amounts - 0) l ys) filled ∙ front-again (layout .amounts) ws ys (drop (layout .amounts) places) words-count in
+          let turned : ys ≡ map (turns (layoutOf s)) (wordsAt 1 3 d) = y ∙ ap₂ (λ (q : Layout) (l : List ℕ). map (turns q) l) r w in
           let delay : k ≡ delayIn (layoutOf s) d = z ∙ ap (λ (q : Layout). getD d (2 * q .amounts + 1) 0) r in
-          rw (right, on) (ap Set (ap₂ (valuesOf s) after delay ∙ values-front s ys (drop (layout .amounts) places) (delayIn (layoutOf s) d) size
-          ∙ ap (λ (l : List ℕ). valuesOf s l (delayIn (layoutOf s) d)) turned))
+          rw (right, on) (ap Set (ap₂ (valuesOf s) turned delay ∙ own-turned s (λ i. wordAt d (1 + 2 * i)) (turns (layoutOf s)) (delayIn (layoutOf s) d)))
 
     -- a request's values
-    module _ (k : ℕ) (v : Values) (z : k ≡ getD d (2 * layout .amounts + 1) 0) (x : v ≡ valuesOf s (putMid 0 (layout .amounts - 0) places ws) k) where
+    module _ (k : ℕ) (v : Values) (z : k ≡ getD d (2 * layout .amounts + 1) 0) (x : v ≡ valuesOf s ws k) where
       pub parsed-values : v ≡ valuesOf s (wordsIn (layoutOf s) d) (delayIn (layoutOf s) d)
       parsed-values =
-          let size : length ws ≡ layoutOf s .amounts = words-count ∙ ap (λ (q : Layout). q .amounts) r in
           let delay : k ≡ delayIn (layoutOf s) d = z ∙ ap (λ (q : Layout). getD d (2 * q .amounts + 1) 0) r in
-          x ∙ ap₂ (valuesOf s) filled delay ∙ values-front s ws (drop (layout .amounts) places) (delayIn (layoutOf s) d) size
-          ∙ ap (λ (l : List ℕ). valuesOf s l (delayIn (layoutOf s) d)) (words ∙ ap (λ (q : Layout). wordsIn q d) r)
+          x ∙ ap₂ (valuesOf s) w delay ∙ own-values s (λ i. wordAt d (1 + 2 * i)) (delayIn (layoutOf s) d)
 
       pub unparsed : allowedOf v ≡ false → Refused (refusedWith range) ≡ requestOf s d
       unfolding requestOf

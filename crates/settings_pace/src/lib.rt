@@ -46,7 +46,7 @@ pub fn parse_setting(setting: Setting, info: &[u8]) -> Found
     in_request(setting, info)
 }
 
-// In a reply all values are kept; a positive amount in a negated layout is refused.
+// In a reply all values are kept; a positive amount in a negated layout is refused. Three words are read and turned, of which a setting's values have its own.
 fn in_reply(setting: Setting, info: &[u8]) -> Found
     ensures { λ r. ⌜ r ≡ replyOf setting (bytesIn (now (info .entry))) ⌝ }
 {
@@ -57,11 +57,11 @@ fn in_reply(setting: Setting, info: &[u8]) -> Found
     let n = layout.amounts;
     let negated = layout.negated;
     let mut amounts = [0u16; 3];
-    words_of(info, 1, &mut amounts[0..n]);
+    words_of(info, 1, &mut amounts);
     if !all_readable(negated, &amounts[0..n]) {
         return Found::Refused(refuse(refusals::RANGE));
     }
-    turn(negated, &mut amounts[0..n]);
+    turn(negated, &mut amounts);
     Found::Set(values_of(setting, amounts, byte_of(info, 2 * n + 1)))
 }
 
@@ -75,7 +75,7 @@ fn in_request(setting: Setting, info: &[u8]) -> Found
     }
     let n = layout.amounts;
     let mut amounts = [0u16; 3];
-    words_of(info, 1, &mut amounts[0..n]);
+    words_of(info, 1, &mut amounts);
     let v = values_of(setting, amounts, byte_of(info, 2 * n + 1));
     if !may_write(v) {
         return Found::Refused(refuse(refusals::RANGE));

@@ -1,10 +1,8 @@
 -- `settings_pace::in_reply` meets its contract: each way out is the case of `replyOf` that its tests name.
 -- Assumes nothing.
-use lib.ListN.{length}
-use Prim.Native.Nat.{_-_}
-use borrow.Rule.Slice.PartMut.{putMid}
-use Rattle.settings_pace.proofs.Taken.{places, filled-length}
 use Prim.Native.Nat.{_≤_}
+use lib.ListN.{length}
+use Rattle.laws.proofs.Firsts.{firsts-length}
 use Rattle.characters_pace.specs.Characters.{bytesIn}
 use mathlib.Core.Path.{_≡_, ap, _∙_}
 use native.Mathlib.Omega.{arith}
@@ -15,17 +13,13 @@ use borrow.Author.Needs.{needs}
 use Rattle.settings_pace.proofs.in_reply.Statement.{statement}
 use Rattle.settings_pace.proofs.in_reply.Tie as tie
 
--- the words, once they are read, fill the front of the array
-abbrev wide : (c : tie.After-amounts2) → length (putMid 0 (c .before .before .before .before .before .layout-of .result .amounts - 0) places (c .before .words-of .last .1 .1 .0)) ≡ 3
-wide c =
-    let w = c .before in
-    let h = w .before .before .before in
-    let a = h .before .before .before .args in
-    filled-length (a .setting) (h .before .layout-of .result) (h .before .layout-of .ensures) (bytesIn (a .info .now)) (h .has-shape .result) (h .has-shape .ensures) (not-false _ (w .before .before .if1 .left)) _ (w .words-of .ensures)
-
 -- the layout is the setting's, and the bytes are those of INFO
 abbrev small : (c : tie.After-layout-of) → c .layout-of .result .amounts ≤ 3
 small c = setting-few (c .before .before .args .setting) (c .layout-of .result) (c .layout-of .ensures) (bytesIn (c .before .before .args .info .now))
+
+-- three words were read
+abbrev wide : (c : tie.After-words-of) → length (c .words-of .last .1 .1 .0) ≡ 3
+wide c = ap length (c .words-of .ensures) ∙ firsts-length _ 3
 
 layout-of-requires : tie.Need-layout-of-requires
 layout-of-requires c κs = search needs
@@ -44,14 +38,8 @@ returns c =
     ap Refused (c .refuse .ensures)
     ∙ misread (a .setting) (r .layout-of .result) (r .layout-of .ensures) (bytesIn (a .info .now)) (h .has-shape .result) (h .has-shape .ensures) (not-true _ (c .before .if1 .taken))
 
-sub-words-of : tie.Need-sub-words-of
-sub-words-of c = search needs
-
-part-amounts-start : tie.Need-part-amounts-start
-part-amounts-start c = search needs
-
-part-amounts-end : tie.Need-part-amounts-end
-part-amounts-end c = omega (arith, small (c .before .before))
+slice-aggregate-words-of : tie.Need-slice-aggregate-words-of
+slice-aggregate-words-of c = search needs
 
 words-of-requires : tie.Need-words-of-requires
 words-of-requires c κs = search needs
@@ -63,7 +51,7 @@ part-all-readable-start : tie.Need-part-all-readable-start
 part-all-readable-start c = search needs
 
 part-all-readable-end : tie.Need-part-all-readable-end
-part-all-readable-end c = omega (arith, small (c .before .before .before .before .before .before), wide (c .before))
+part-all-readable-end c = omega (arith, small (c .before .before .before .before .before .before), wide (c .before .before))
 
 all-readable-requires : tie.Need-all-readable-requires
 all-readable-requires c κs = search needs
@@ -83,14 +71,8 @@ returns-2 c =
     ∙ unread (a .setting) (r .layout-of .result) (r .layout-of .ensures) (bytesIn (a .info .now)) (h .has-shape .result) (h .has-shape .ensures) (not-false _ (one .if1 .left))
     _ (w .words-of .ensures) (test .all-readable .result) (test .all-readable .ensures) (not-true _ (c .before .if2 .taken))
 
-sub-turn : tie.Need-sub-turn
-sub-turn c = search needs
-
-part-amounts-start-2 : tie.Need-part-amounts-start-2
-part-amounts-start-2 c = search needs
-
-part-amounts-end-2 : tie.Need-part-amounts-end-2
-part-amounts-end-2 c = let filled = c .before .before .before .before in omega (arith, small (filled .before .before .before .before .before), wide filled)
+slice-aggregate-turn : tie.Need-slice-aggregate-turn
+slice-aggregate-turn c = search needs
 
 turn-requires : tie.Need-turn-requires
 turn-requires c κs = search needs
@@ -130,9 +112,7 @@ in-reply-spec =
     has-shape-requires
     refuse-requires
     returns
-    sub-words-of
-    part-amounts-start
-    part-amounts-end
+    slice-aggregate-words-of
     words-of-requires
     sub-all-readable
     part-all-readable-start
@@ -140,9 +120,7 @@ in-reply-spec =
     all-readable-requires
     refuse-requires-2
     returns-2
-    sub-turn
-    part-amounts-start-2
-    part-amounts-end-2
+    slice-aggregate-turn
     turn-requires
     mul-byte-of
     add-byte-of

@@ -32,14 +32,8 @@ returns c =
     ap Refused (c .refuse .ensures)
     ∙ misparsed (a .setting) (r .layout-of .result) (r .layout-of .ensures) (bytesIn (a .info .now)) (h .has-shape .result) (h .has-shape .ensures) (not-true _ (c .before .if1 .taken))
 
-sub-words-of : tie.Need-sub-words-of
-sub-words-of c = search needs
-
-part-amounts-start : tie.Need-part-amounts-start
-part-amounts-start c = search needs
-
-part-amounts-end : tie.Need-part-amounts-end
-part-amounts-end c = omega (arith, small (c .before .before))
+slice-aggregate-words-of : tie.Need-slice-aggregate-words-of
+slice-aggregate-words-of c = search needs
 
 words-of-requires : tie.Need-words-of-requires
 words-of-requires c κs = search needs
@@ -97,9 +91,7 @@ in-request-spec =
     has-shape-requires
     refuse-requires
     returns
-    sub-words-of
-    part-amounts-start
-    part-amounts-end
+    slice-aggregate-words-of
     words-of-requires
     mul-byte-of
     add-byte-of
