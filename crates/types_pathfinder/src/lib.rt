@@ -21,117 +21,6 @@ pub enum RowType {
     NoReply,
 }
 
-// Reply 02.
-const SETTINGS: [RowType; 50] = [
-    RowType::I16,
-    RowType::U8,
-    RowType::U8,
-    RowType::I8,
-    RowType::I8,
-    RowType::U8,
-    RowType::I8,
-    RowType::I8,
-    RowType::U8,
-    RowType::I8,
-    RowType::I8,
-    RowType::U8,
-    RowType::I8,
-    RowType::I8,
-    RowType::U8,
-    RowType::U8,
-    RowType::U8,
-    RowType::U16,
-    RowType::U8,
-    RowType::U8,
-    RowType::U16,
-    RowType::I32,
-    RowType::U8,
-    RowType::I32,
-    RowType::U8,
-    RowType::U8,
-    RowType::U32,
-    RowType::U8,
-    RowType::U8,
-    RowType::U8,
-    RowType::U8,
-    RowType::I32,
-    RowType::I32,
-    RowType::U8,
-    RowType::I32,
-    RowType::U8,
-    RowType::I32,
-    RowType::U8,
-    RowType::I16,
-    RowType::U8,
-    RowType::I16,
-    RowType::U8,
-    RowType::U32,
-    RowType::Bool,
-    RowType::Bool,
-    RowType::Bool,
-    RowType::Bool,
-    RowType::U32,
-    RowType::U8,
-    RowType::U32,
-];
-
-// Reply 03.
-const INFO: [RowType; 53] = [
-    RowType::TenMillivolts,
-    RowType::I32,
-    RowType::U32,
-    RowType::U32,
-    RowType::U32,
-    RowType::U16,
-    RowType::Bits,
-    RowType::Bits,
-    RowType::I32,
-    RowType::I32,
-    RowType::U8,
-    RowType::U8,
-    RowType::U8,
-    RowType::U8,
-    RowType::U8,
-    RowType::U8,
-    RowType::I32,
-    RowType::U8,
-    RowType::U8,
-    RowType::U8,
-    RowType::U8,
-    RowType::I32,
-    RowType::I32,
-    RowType::I32,
-    RowType::I32,
-    RowType::U16,
-    RowType::I32,
-    RowType::I32,
-    RowType::I32,
-    RowType::I32,
-    RowType::I32,
-    RowType::I32,
-    RowType::U16,
-    RowType::U16,
-    RowType::U16,
-    RowType::U16,
-    RowType::U16,
-    RowType::U16,
-    RowType::U16,
-    RowType::U16,
-    RowType::U16,
-    RowType::U16,
-    RowType::U16,
-    RowType::U16,
-    RowType::U16,
-    RowType::U16,
-    RowType::U8,
-    RowType::U16,
-    RowType::U16,
-    RowType::U8,
-    RowType::U32,
-    RowType::U32,
-    RowType::TenMillivolts,
-];
-
 // The type of a row of a reply.
 pub fn row_type(reply: u8, row: u8) -> RowType
     ensures { λ r. ⌜ r ≡ typeAt reply row ⌝ }
@@ -155,22 +44,50 @@ fn words(row: u8, count: u8) -> RowType
     }
 }
 
+// Reply 02.
 fn setting(row: u8) -> RowType
     ensures { λ r. ⌜ r ≡ listedAt settings row ⌝ }
 {
-    if row < 50 {
-        SETTINGS[row as usize]
-    } else {
-        RowType::NoRow
+    match row {
+        // Balancer Start Voltage; PF Cell Overvoltage and Undervoltage.
+        0 | 38 | 40 => RowType::I16,
+        // Balancing; delays; cell voltages; L2 FET Overtemp.
+        1 | 2 | 5 | 8 | 11 | 14..=16 | 18 | 19 | 22 | 24 | 25 | 27..=30 => RowType::U8,
+        // Short Circuit Recovery; PF delays; Predischarge Target Percent.
+        33 | 35 | 37 | 39 | 41 | 48 => RowType::U8,
+        // Charge and Discharge, Overtemp and Undertemp.
+        3 | 4 | 6 | 7 | 9 | 10 | 12 | 13 => RowType::I8,
+        // Cell Overvoltage and Undervoltage Delay.
+        17 | 20 => RowType::U16,
+        // Overcurrent; Short Circuit; PF Overcurrent.
+        21 | 23 | 31 | 32 | 34 | 36 => RowType::I32,
+        // L2 Discharge Overcurrent; Design Capacity; Predischarge Timeout.
+        26 | 42 | 47 => RowType::U32,
+        // NTC1 to NTC4 Active.
+        43..=46 => RowType::Bool,
+        // Predischarge Retry Time.
+        49 => RowType::U32,
+        _ => RowType::NoRow,
     }
 }
 
+// Reply 03.
 fn info(row: u8) -> RowType
     ensures { λ r. ⌜ r ≡ listedAt infos row ⌝ }
 {
-    if row < 53 {
-        INFO[row as usize]
-    } else {
-        RowType::NoRow
+    match row {
+        // Stack Voltage; B+ terminal voltage.
+        0 | 52 => RowType::TenMillivolts,
+        // Pack Current; firmware version; Cell Count; NTC temperatures; session values.
+        1 | 8 | 9 | 16 | 21..=24 | 26..=31 => RowType::I32,
+        // Capacity, Reserved, Cycle Count; Design and Measured Capacity.
+        2..=4 | 50 | 51 => RowType::U32,
+        // Cell Balancer Status; Active cell inputs; alarm and reset counts; Time to Full and to Empty.
+        5 | 25 | 32..=45 | 47 | 48 => RowType::U16,
+        // Current Errors.
+        6 | 7 => RowType::Bits,
+        // State of Charge; FETs and switch; NTC active; SOC confidence; State of Health.
+        10..=15 | 17..=20 | 46 | 49 => RowType::U8,
+        _ => RowType::NoRow,
     }
 }
