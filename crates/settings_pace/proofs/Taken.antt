@@ -16,7 +16,7 @@ use Rattle.commands_pace.specs.declared.Layout.{Layout}
 use Rattle.commands_pace.specs.declared.Values.{Values}
 use Rattle.settings_pace.specs.declared.Found.the-variants.{Set, Refused}
 use Rattle.commands_pace.specs.Settings.{layoutOf, valuesOf}
-use Rattle.writes_pace.specs.Allowed.{allowedOf}
+use Rattle.allowed_pace.specs.Allowed.{allowedOf}
 use Rattle.settings_pace.specs.Reading.{shaped, wordsIn, delayIn, amountOf, isAmount, amountIn, replyOf, requestOf}
 use Rattle.commands_pace.proofs.Settings.{few, values-front}
 
