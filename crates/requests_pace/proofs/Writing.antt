@@ -20,7 +20,7 @@ use Rattle.frames_written_pace.proofs.Writing.{chars-length}
 use Rattle.writes_pace.specs.declared.Info.{Info}
 use Rattle.layouts_pace.specs.declared.Values.{Values}
 use Rattle.commands_pace.specs.Commands.{commandOf}
-use Rattle.writes_pace.specs.Allowed.{allowedOf}
+use Rattle.allowed_pace.specs.Allowed.{allowedOf}
 use Rattle.writes_pace.specs.Info as writes
 use Rattle.settings_pace.proofs.RoundTrip.{info-short}
 use Rattle.requests_pace.specs.declared.Kind.{Kind}

@@ -12,7 +12,7 @@ use Rattle.commands_pace.specs.declared.Command.{Command}
 use Rattle.commands_pace.specs.declared.Command.the-variants as command
 use Rattle.commands_pace.specs.Commands.{commandOf}
 use Rattle.layouts_pace.specs.Settings.{layoutOf, settingOf}
-use Rattle.writes_pace.specs.Allowed.{allowedOf}
+use Rattle.allowed_pace.specs.Allowed.{allowedOf}
 use Rattle.writes_pace.specs.Info as writes
 use Rattle.requests_pace.specs.declared.Kind.{Kind}
 use Rattle.requests_pace.specs.declared.Kind.the-variants.{Addressed, Bare, Carries, Unlisted}

@@ -1,5 +1,6 @@
 // PACE requests (004; 01, PACE), written as frames: 42 and 44 with the address as their one INFO byte; C1, C2, D1, DB without INFO; D0 and DA with values.
 // `requests_read_pace` reads them.
+use allowed_pace::may_write;
 use commands_pace::Command;
 use commands_pace::command_of;
 use frames_written_pace::write_frame;
@@ -9,13 +10,12 @@ use orders::writing;
 use refusals::Written;
 use refusals::refuse;
 use writes_pace::info_of;
-use writes_pace::may_write;
 ghost use mathlib.Core.Path.{_≡_};
 ghost use lib.ListN.{length};
 ghost use Rattle.laws.specs.Choice.{pick};
 ghost use Rattle.refusals.specs.Refused.{range};
 ghost use Rattle.refusals.specs.Writing.{roomAfter};
-ghost use Rattle.writes_pace.specs.Allowed.{allowedOf};
+ghost use Rattle.allowed_pace.specs.Allowed.{allowedOf};
 ghost use Rattle.requests_pace.specs.Request.{kindOf, frameFor, sentAs};
 
 pub enum Request {

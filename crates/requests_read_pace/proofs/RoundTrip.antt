@@ -34,7 +34,7 @@ use Rattle.layouts_pace.specs.declared.Setting.{Setting}
 use Rattle.layouts_pace.specs.declared.Values.{Values}
 use Rattle.commands_pace.specs.Commands.{commandOf}
 use Rattle.layouts_pace.specs.Settings.{layoutOf, settingOf}
-use Rattle.writes_pace.specs.Allowed.{allowedOf}
+use Rattle.allowed_pace.specs.Allowed.{allowedOf}
 use Rattle.writes_pace.specs.Info as writes
 use Rattle.commands_pace.proofs.Commands.{writes-itself, writes-only}
 use Rattle.layouts_pace.proofs.Settings.{writes-small}

@@ -22,7 +22,7 @@ use Rattle.layouts_pace.specs.declared.Layout.{Layout}
 use Rattle.layouts_pace.specs.declared.Values.{Values}
 use Rattle.settings_pace.specs.declared.Found.the-variants.{Set, Refused}
 use Rattle.layouts_pace.specs.Settings.{layoutOf, settingOf, amountsOf, delayOf, valuesOf}
-use Rattle.writes_pace.specs.Allowed.{inSteps, allowed, allowedOf}
+use Rattle.allowed_pace.specs.Allowed.{inSteps, allowed, allowedOf}
 use Rattle.writes_pace.specs.Info.{pairsOf, payload, infoOf}
 use Rattle.settings_pace.specs.Reading.{shaped, wordsIn, delayIn, requestOf}
 use Rattle.layouts_pace.proofs.Settings.{few, highs, leads, amounts-count, values-again, setting-again, delay-again, amounts-again}

@@ -16,7 +16,7 @@ use Rattle.layouts_pace.specs.declared.Layout.{Layout}
 use Rattle.layouts_pace.specs.declared.Values.{Values}
 use Rattle.settings_pace.specs.declared.Found.the-variants.{Set, Refused}
 use Rattle.layouts_pace.specs.Settings.{layoutOf, valuesOf}
-use Rattle.writes_pace.specs.Allowed.{allowedOf}
+use Rattle.allowed_pace.specs.Allowed.{allowedOf}
 use Rattle.settings_pace.specs.Reading.{shaped, wordsIn, delayIn, amountOf, isAmount, amountIn, replyOf, requestOf}
 use Rattle.layouts_pace.proofs.Settings.{few, values-front}
 

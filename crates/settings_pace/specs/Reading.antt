@@ -13,7 +13,7 @@ use Rattle.characters_pace.specs.Characters.{allOf, wordsAt}
 use Rattle.layouts_pace.specs.declared.Setting.{Setting}
 use Rattle.layouts_pace.specs.declared.Layout.{Layout}
 use Rattle.layouts_pace.specs.Settings.{layoutOf, valuesOf}
-use Rattle.writes_pace.specs.Allowed.{allowedOf}
+use Rattle.allowed_pace.specs.Allowed.{allowedOf}
 use Rattle.settings_pace.specs.declared.Amount.{Amount}
 use Rattle.settings_pace.specs.declared.Amount.the-variants.{Is, Positive}
 use Rattle.settings_pace.specs.declared.Found.{Found}

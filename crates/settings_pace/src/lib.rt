@@ -1,5 +1,6 @@
 // PACE settings in INFO: the values of a reply and those of a request (004, "Parameter Setting" tab; 01, PACE).
 // INFO comes as characters; where they are no bytes that is refused first, and the rest is said of the bytes that they carry.
+use allowed_pace::may_write;
 use characters_pace::byte_of;
 use faults_pace::fault_of;
 use layouts_pace::Layout;
@@ -11,7 +12,6 @@ use lists_pace::words_of;
 use refusals::Refusal;
 use refusals::refuse;
 use signs::signed16;
-use writes_pace::may_write;
 ghost use mathlib.Core.Path.{_≡_};
 ghost use mathlib.Core.List.{map};
 ghost use Prim.Native.Nat.{_≤_};

@@ -1,5 +1,4 @@
-// Writing a PACE setting: whether its values may be written, and the INFO of the request that writes them, by its layout (004, "Parameter
-// Setting" tab; 01, PACE).
+// Writing a PACE setting: the INFO of the request that writes its values, by its layout (004, "Parameter Setting" tab; 01, PACE).
 use layouts_pace::Setting;
 use layouts_pace::Values;
 use layouts_pace::layout_of;
@@ -7,11 +6,9 @@ use numbers::Order;
 use numbers_written::bytes16;
 ghost use mathlib.Core.Path.{_≡_};
 ghost use mathlib.Core.List.{_++_};
-ghost use Prim.Native.Nat.{_*_, _<_};
+ghost use Prim.Native.Nat.{_*_};
 ghost use lib.ListN.{length, drop, replicate};
-ghost use Rattle.characters_pace.specs.Characters.{allOf};
 ghost use Rattle.layouts_pace.specs.Settings.{settingOf, amountsOf, delayOf};
-ghost use Rattle.writes_pace.specs.Allowed.{inSteps, allowedOf};
 ghost use Rattle.writes_pace.specs.Info.{pairsOf, infoRecord};
 
 // The values of a setting with their places counted; places past the layout's amounts are 0.
@@ -45,53 +42,6 @@ fn parts_of(v: Values) -> Parts
             delay: delay_100ms,
         },
     }
-}
-
-// Whether the values may be written: amounts and delay in the layout's ranges and steps.
-pub fn may_write(v: Values) -> bool
-    ensures { λ r. ⌜ r ≡ allowedOf v ⌝ }
-{
-    let p = parts_of(v);
-    let setting = p.setting;
-    let layout = layout_of(setting);
-    let n = layout.amounts;
-    let amounts = p.amounts;
-    if !all_within(layout.low, layout.high, layout.step, &amounts[0..n]) {
-        return false;
-    }
-    is_within(
-        layout.delay_low as u16,
-        layout.delay_high as u16,
-        layout.delay_step as u16,
-        p.delay as u16,
-    )
-}
-
-fn all_within(low: u16, high: u16, step: u16, amounts: &[u16]) -> bool
-    requires { ⌜ 0 < step ⌝ }
-    ensures { λ r. ⌜ r ≡ allOf (inSteps low high step) (now (amounts .entry)) ⌝ }
-{
-    let mut i = 0;
-    while i < amounts.len() {
-        if !is_within(low, high, step, amounts[i]) {
-            return false;
-        }
-        i += 1;
-    }
-    true
-}
-
-fn is_within(low: u16, high: u16, step: u16, n: u16) -> bool
-    requires { ⌜ 0 < step ⌝ }
-    ensures { λ r. ⌜ r ≡ inSteps low high step n ⌝ }
-{
-    if n < low {
-        return false;
-    }
-    if high < n {
-        return false;
-    }
-    (n - low) % step == 0
 }
 
 // The command that writes a setting, and the bytes of its INFO, as many as `len` says.

@@ -5,7 +5,7 @@ use mathlib.Core.Path.{_≡_, ap, _∙_}
 use native.Mathlib.Omega.{arith}
 use lib.ListN.{length}
 use Rattle.layouts_pace.specs.Settings.{layoutOf, settingOf}
-use Rattle.writes_pace.proofs.Judged.{layout-few, info-is}
+use Rattle.writes_pace.proofs.Stored.{layout-few, info-is}
 use borrow.Author.Needs.{needs}
 use Rattle.writes_pace.proofs.info_of.Statement.{statement}
 use Rattle.writes_pace.proofs.info_of.Tie as tie

@@ -1,59 +1,32 @@
--- What the writer knows of a setting's values at each place, as the definitions have it: the part that it lends holds the layout's amounts.
+-- The bytes that the writer stores, as the definition has them: the part that it lends holds the layout's amounts.
 -- Assumes nothing.
 use mathlib.Core.Path.{_≡_, refl, sym, ap, ap₂, _∙_}
-use mathlib.Core.Bool.{Bool, true, false, _&&_}
 use mathlib.Core.List.{List, [], _∷_, _++_}
-use Prim.Native.Nat.{ℕ, _+_, _-_, _*_, _/_, _%_, _<_, _≤_}
+use Prim.Native.Nat.{ℕ, _+_, _-_, _*_, _/_, _%_, _≤_}
 use native.Mathlib.Omega.{arith}
 use borrow.Rule.Slice.PartMut.{putMid}
 use lib.Dec.{lit<}
 use lib.ListN.{length, take, drop, set, replicate, length-append}
 use Rattle.laws.proofs.Filling.{one-more, part-more, front-taken}
-use Rattle.characters_pace.specs.Characters.{allOf}
 use Rattle.characters_pace.proofs.Halves.{halves-length}
 use Rattle.writes_pace.specs.declared.Info.{Info}
 use Rattle.layouts_pace.specs.declared.Layout.{Layout}
 use Rattle.layouts_pace.specs.declared.Values.{Values}
 use Rattle.layouts_pace.specs.Settings.{layoutOf, settingOf, amountsOf, delayOf}
-use Rattle.writes_pace.specs.Allowed.{inSteps, allowed, allowedOf}
 use Rattle.writes_pace.specs.Info.{pairsOf, payload, infoOf, infoRecord}
-use Rattle.layouts_pace.proofs.Settings.{few, steps, amounts-count}
-
--- ---- may they be written?
+use Rattle.layouts_pace.proofs.Settings.{few, amounts-count}
 
 module _ (v : Values) (layout : Layout) (r : layout ≡ layoutOf (settingOf v)) where
   pub layout-few : layout .amounts ≤ 3
   layout-few = rw r (few (settingOf v))
 
-  pub layout-steps : (0 < layout .step) × (0 < layout .«delay_step»)
-  layout-steps = rw r (steps (settingOf v))
-
-  -- the part that is lent holds the amounts
-  pub amounts-lent : (a : List ℕ) → a ≡ amountsOf v ++ drop (length (amountsOf v)) (replicate 3 0) → take (layout .amounts - 0) a ≡ amountsOf v
-  amounts-lent a e =
-      ap (take (layout .amounts - 0)) e
-      ∙ front-taken (layout .amounts) (drop (length (amountsOf v)) (replicate 3 0)) (amountsOf v) (amounts-count v ∙ sym (ap (λ (q : Layout). q .amounts) r))
-
-  module _ (a : List ℕ) (e : a ≡ amountsOf v ++ drop (length (amountsOf v)) (replicate 3 0)) (t : Bool) (w : t ≡ allOf (inSteps (layout .low) (layout .high) (layout .step)) (take (layout .amounts - 0) a)) where
-    tested : allOf (inSteps (layout .low) (layout .high) (layout .step)) (amountsOf v) ≡ t
-    tested = sym (w ∙ ap (allOf (inSteps (layout .low) (layout .high) (layout .step))) (amounts-lent a e))
-
-    pub amounts-decide : t ≡ false → false ≡ allowedOf v
-    unfolding allowed
-    amounts-decide f = ap (λ (b : Bool). b && inSteps (layout .«delay_low») (layout .«delay_high») (layout .«delay_step») (delayOf v)) (sym (tested ∙ f)) ∙ ap (λ (q : Layout). allowed q (amountsOf v) (delayOf v)) r
-
-    pub delay-decides : t ≡ true → (u : Bool) (d : ℕ) → d ≡ delayOf v → u ≡ inSteps (layout .«delay_low») (layout .«delay_high») (layout .«delay_step») d → u ≡ allowedOf v
-    unfolding allowed
-    delay-decides f u d g h =
-        h ∙ ap (inSteps (layout .«delay_low») (layout .«delay_high») (layout .«delay_step»)) g
-        ∙ ap (λ (b : Bool). b && inSteps (layout .«delay_low») (layout .«delay_high») (layout .«delay_step») (delayOf v)) (sym (tested ∙ f))
-        ∙ ap (λ (q : Layout). allowed q (amountsOf v) (delayOf v)) r
-
--- ---- the bytes that are written
-
-module _ (v : Values) (layout : Layout) (r : layout ≡ layoutOf (settingOf v)) where
   counted : length (amountsOf v) ≡ layout .amounts
   counted = amounts-count v ∙ sym (ap (λ (q : Layout). q .amounts) r)
+
+  -- the part that is lent holds the amounts
+  amounts-lent : (a : List ℕ) → a ≡ amountsOf v ++ drop (length (amountsOf v)) (replicate 3 0) → take (layout .amounts - 0) a ≡ amountsOf v
+  amounts-lent a e =
+      ap (take (layout .amounts - 0)) e ∙ front-taken (layout .amounts) (drop (length (amountsOf v)) (replicate 3 0)) (amountsOf v) counted
 
   info-length : length (infoOf v) ≡ 2 * layout .amounts + 2
   unfolding payload
@@ -71,8 +44,8 @@ module _ (v : Values) (layout : Layout) (r : layout ≡ layoutOf (settingOf v)) 
   info-is a ys d e y g =
       let zeros : List ℕ = replicate 8 0 in
       let n = layout .amounts in
-      let small = layout-few v layout r in
-      let pairs : ys ≡ pairsOf (amountsOf v) = y ∙ ap pairsOf (amounts-lent v layout r a e) in
+      let small = layout-few in
+      let pairs : ys ≡ pairsOf (amountsOf v) = y ∙ ap pairsOf (amounts-lent a e) in
       let size : length ys ≡ 2 * n = ap length pairs ∙ omega (arith, halves-length (λ n. n / 256 % 256) (λ n. n % 256) (amountsOf v), counted) in
       let at : 1 + (2 * n + 1 - 1) ≡ 2 * n + 1 = omega arith in
       let past : 2 * n + 1 + 1 ≡ length (infoOf v) = omega (arith, info-length) in

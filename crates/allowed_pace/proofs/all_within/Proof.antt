@@ -1,4 +1,4 @@
--- `writes_pace::all_within` meets its contract. The loop's invariant: what is left has the answer of the whole.
+-- `allowed_pace::all_within` meets its contract. The loop's invariant: what is left has the answer of the whole.
 -- Assumes nothing.
 use Rattle.characters_pace.proofs.Tests.{all-stopped, all-passed, all-ended}
 use Prim.Native.Nat.{_-_, _≤_}
@@ -7,9 +7,9 @@ use native.Mathlib.Omega.{arith}
 use lib.ListN.{length, drop}
 use borrow.Author.Tests.{not-true, not-false}
 use Rattle.characters_pace.specs.Characters.{allOf}
-use Rattle.writes_pace.specs.Allowed.{inSteps}
-use Rattle.writes_pace.proofs.all_within.Statement.{statement}
-use Rattle.writes_pace.proofs.all_within.Tie as tie
+use Rattle.allowed_pace.specs.Allowed.{inSteps}
+use Rattle.allowed_pace.proofs.all_within.Statement.{statement}
+use Rattle.allowed_pace.proofs.all_within.Tie as tie
 
 abbrev Inv-loop : tie.InvT-loop
 Inv-loop low high step amounts i₀ i = (i ≤ length amounts) × (allOf (inSteps low high step) (drop i amounts) ≡ allOf (inSteps low high step) amounts)

@@ -1,9 +1,9 @@
--- `writes_pace::is_within` meets its contract: each way out rewrites with the tests that led there.
+-- `allowed_pace::is_within` meets its contract: each way out rewrites with the tests that led there.
 -- Assumes nothing.
 use borrow.Author.Tests.{le-leb, lt-leb}
 use borrow.Author.Needs.{needs}
-use Rattle.writes_pace.proofs.is_within.Statement.{statement}
-use Rattle.writes_pace.proofs.is_within.Tie as tie
+use Rattle.allowed_pace.proofs.is_within.Statement.{statement}
+use Rattle.allowed_pace.proofs.is_within.Tie as tie
 
 returns : tie.Need-returns
 returns c = rw (lt-leb _ _ (c .if1 .taken))
