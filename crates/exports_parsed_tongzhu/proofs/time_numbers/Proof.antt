@@ -1,27 +1,28 @@
 -- `exports_parsed_tongzhu::time_numbers` meets its contract, number by number: each fits by what is known of the record.
 -- Assumes nothing.
 use mathlib.Core.Path.{refl}
-use Rattle.widths.proofs.Widening.{fits, then}
+use Rattle.widths.proofs.Widening.{then}
+use borrow.Author.Needs.{needs}
 use Rattle.exports_parsed_tongzhu.proofs.time_numbers.Statement.{statement}
 use Rattle.exports_parsed_tongzhu.proofs.time_numbers.Tie as tie
 
 cast-t2 : tie.Need-cast-t2
-cast-t2 c = fits tt (c .struct-known .given .0)
+cast-t2 c = search needs
 
 cast-t3 : tie.Need-cast-t3
-cast-t3 c = fits tt (c .struct-known2 .given .1 .0)
+cast-t3 c = search needs
 
 cast-t4 : tie.Need-cast-t4
-cast-t4 c = fits tt (c .struct-known3 .given .1 .1 .0)
+cast-t4 c = search needs
 
 cast-t5 : tie.Need-cast-t5
-cast-t5 c = fits tt (c .struct-known4 .given .1 .1 .1 .0)
+cast-t5 c = search needs
 
 cast-t6 : tie.Need-cast-t6
-cast-t6 c = fits tt (c .struct-known5 .given .1 .1 .1 .1 .0)
+cast-t6 c = search needs
 
 cast-t7 : tie.Need-cast-t7
-cast-t7 c = fits tt (c .struct-known6 .given .1 .1 .1 .1 .1 .0)
+cast-t7 c = search needs
 
 returns : tie.Need-returns
 returns c =
