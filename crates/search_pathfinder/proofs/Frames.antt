@@ -18,8 +18,9 @@ use Rattle.frames_pathfinder.specs.declared.Frame.{Frame}
 use Rattle.frames_pathfinder.specs.declared.Frame.the-variants.{Whole, Refused}
 use Rattle.frames_pathfinder.specs.Reading.{frameOf}
 use Rattle.frames_pathfinder.proofs.Ladder.{whole, whole-parts}
-use Rattle.search_pathfinder.specs.Places.{isWhole, sizeAt, partAt, frameAt, spanOf, agrees}
-use Rattle.search_pathfinder.proofs.Spans.{a-span}
+use Rattle.search_pathfinder.specs.declared.Found.the-variants.{Nothing}
+use Rattle.search_pathfinder.specs.Places.{isWhole, sizeAt, partAt, frameAt, scan, spanOf, agrees}
+use Rattle.search_pathfinder.proofs.Spans.{too-short, a-span}
 
 not-true : (b : Bool) → (b ≡ true → ⊥) → b ≡ false
 not-true true h = absurd (h refl)
@@ -135,3 +136,9 @@ module _ (s : List ℕ) (i : ℕ) where
         span-is-frame m refl (eqb-false m 0 (d .0)) (eqb-true (getD s i 0) 0xFE (b .0)) (leb-true (i + m + 5) (length s) (f .0)) (eqb-true (getD s (i + m + 4) 0) 0xFD (g .0)) sum,
         omega arith,
       )
+
+-- where fewer bytes are left than a frame has, there is none
+pub scan-short : (s : List ℕ) (k i : ℕ) → length s < i + 6 → scan k i s ≡ Nothing
+unfolding scan
+scan-short s zero i h = refl
+scan-short s (suc k) i h = rw (no-span s i 0 (too-short s i h) refl) (scan-short s k (suc i) (omega arith))

@@ -13,7 +13,7 @@ use Rattle.checks.specs.Crc.{crcStep, crcFrom, crcOf}
 use Rattle.checks.proofs.Pairs.{one-next, none-left}
 use Rattle.numbers.specs.declared.Order.the-variants.{HighFirst}
 use Rattle.numbers.specs.Bytes.{numberOf}
-use Rattle.search_pathfinder.specs.declared.Found.the-variants.{At, Nothing}
+use Rattle.search_pathfinder.specs.declared.Found.the-variants.{At}
 use Rattle.search_pathfinder.specs.Places.{sizeAt, frameAt, scan, searchOf, spanOf, agrees}
 
 module _ (s : List ℕ) (i : ℕ) where
@@ -22,10 +22,6 @@ module _ (s : List ℕ) (i : ℕ) where
   too-short h = simp (lt-leb _ _ h)
 
   module _ (long : i + 6 ≤ length s) where
-    pub no-mark : (getD s i 0 ≡ 0xFE → ⊥) → 0 ≡ spanOf s i
-    unfolding spanOf
-    no-mark h = simp (le-leb _ _ long, ne-eqb _ _ h)
-
     module _ (mark : getD s i 0 ≡ 0xFE) (n : ℕ) (e : n ≡ getD s (i + 1) 0) where
       pub no-length : n ≡ 0 → 0 ≡ spanOf s i
       unfolding spanOf
@@ -74,10 +70,6 @@ module _ (s : List ℕ) (i n sum told : ℕ) (a : crcOf (take n (drop (i + 1) s)
   sum-differs h = rw (a, ← b) (ne-eqb sum told h)
 
 -- ---- a turn of the search
-
-pub scan-end : (s : List ℕ) (i : ℕ) → length s ≤ i → scan (length s - i) i s ≡ Nothing
-unfolding scan
-scan-end s i h = let e : length s - i ≡ 0 = omega arith in rw e
 
 pub scan-start : (s : List ℕ) → searchOf s ≡ scan (length s - 0) 0 s
 unfolding searchOf

@@ -4,8 +4,8 @@ use numbers::Order;
 use numbers::number16;
 ghost use mathlib.Core.Path.{_≡_};
 ghost use Prim.Native.Nat.{_+_, _-_, _<_, _≤_};
-ghost use lib.ListN.{length};
-ghost use Rattle.search_pathfinder.specs.Places.{spanOf, searchOf};
+ghost use lib.ListN.{length, getD};
+ghost use Rattle.search_pathfinder.specs.Places.{spanOf, scan, searchOf};
 
 pub enum Found {
     // The smallest place of a frame, and its total length.
@@ -19,12 +19,9 @@ pub fn find(s: &[u8]) -> Found
 {
     let mut i = 0;
     'places: loop {
-        if s.len() <= i {
+        i = mark_from(s, i);
+        if s.len() < i + 6 {
             break 'places Found::Nothing;
-        }
-        if s[i] != 0xFE {
-            i += 1;
-            continue 'places;
         }
         let n = span(s, i);
         let mut sum = 0;
@@ -42,17 +39,26 @@ pub fn find(s: &[u8]) -> Found
     }
 }
 
-// How many bytes the checksum of a frame at i would cover, by marks and length; 0 where they are wrong.
+// The first place from this one on that has a start mark, or the end; the places passed have no frame. It goes by itself, so that log text costs one test a byte.
+fn mark_from(s: &[u8], from: usize) -> usize
+    requires { ⌜ from + 6 ≤ 18446744073709551615 ⌝ }
+    ensures { λ r. ⌜ (r + 6 ≤ 18446744073709551615) × (from ≤ r) × (r < length (now (s .entry)) → getD (now (s .entry)) r 0 ≡ 0xFE) × (scan (length (now (s .entry)) - from) from (now (s .entry)) ≡ scan (length (now (s .entry)) - r) r (now (s .entry))) ⌝ }
+{
+    let mut i = from;
+    while i < s.len() {
+        if s[i] == 0xFE {
+            return i;
+        }
+        i += 1;
+    }
+    i
+}
+
+// How many bytes the checksum of a frame at a mark would cover, by length and end mark; 0 where they are wrong.
 fn span(s: &[u8], i: usize) -> usize
-    requires { ⌜ i < length (now s) ⌝ }
+    requires { ⌜ (i + 6 ≤ length (now s)) × (getD (now s) i 0 ≡ 0xFE) ⌝ }
     ensures { λ r. ⌜ (r ≡ spanOf (now (s .entry)) i) × (r ≤ length (now (s .entry)) - (i + 4)) ⌝ }
 {
-    if s.len() < i + 6 {
-        return 0;
-    }
-    if s[i] != 0xFE {
-        return 0;
-    }
     let n = wide(s[i + 1]);
     if n == 0 {
         return 0;

@@ -1,17 +1,17 @@
 -- `search_pathfinder::find` meets its contract. The outer loop: no place passed has a frame. The inner one: the sum so far, and at the
--- span's end that it differs. The label is left at the end of the input with nothing, and where the sum agrees with place and length.
+-- span's end that it differs. The label is left with nothing where too few bytes are left, and where the sum agrees with place and length.
 -- Assumes nothing.
 use mathlib.Core.Path.{_≡_, sym, ap, _∙_}
 use mathlib.Core.Bool.{false}
-use Prim.Native.Nat.{_+_, _-_, _≤_}
+use Prim.Native.Nat.{_+_, _-_, _<_, _≤_}
 use native.Mathlib.Omega.{arith}
 use lib.ListN.{length, take, drop}
 use Rattle.checks.specs.Crc.{crcOf, crcFrom}
 use Rattle.checks.proofs.Pairs.{from-zero}
 use Rattle.search_pathfinder.specs.declared.Found.the-variants.{At}
 use Rattle.search_pathfinder.specs.Places.{agrees, scan, searchOf}
-use Rattle.search_pathfinder.proofs.Spans.{sum-more, sum-whole, sum-agrees, sum-differs, scan-end, scan-here, scan-on, scan-start}
-use Rattle.search_pathfinder.proofs.Frames.{no-mark-no-frame, passed, found}
+use Rattle.search_pathfinder.proofs.Spans.{sum-more, sum-whole, sum-agrees, sum-differs, scan-here, scan-on, scan-start}
+use Rattle.search_pathfinder.proofs.Frames.{scan-short, passed, found}
 use borrow.Author.Needs.{needs}
 use Rattle.search_pathfinder.proofs.find.Statement.{statement}
 use Rattle.search_pathfinder.proofs.find.Tie as tie
@@ -23,31 +23,22 @@ abbrev μ-loop : tie.MeasureT-loop
 μ-loop s i n sum₀ k₀ sum k = n - k
 
 abbrev Inv-places : tie.InvT-places
-Inv-places s i₀ i = searchOf s ≡ scan (length s - i) i s
+Inv-places s i₀ i = (i + 6 ≤ 18446744073709551615) × (searchOf s ≡ scan (length s - i) i s)
 
 abbrev μ-places : tie.MeasureT-places
 μ-places s i₀ i = length s - i
 
 places-holds : tie.Need-places-holds Inv-loop μ-loop Inv-places μ-places
-places-holds c = scan-start _
+places-holds c = (omega arith, scan-start _)
 
-shared-slice-read-if2 : tie.Need-shared-slice-read-if2 Inv-loop μ-loop Inv-places μ-places
-shared-slice-read-if2 c = omega arith
+mark-from-requires : tie.Need-mark-from-requires Inv-loop μ-loop Inv-places μ-places
+mark-from-requires c κs = c .places .inv .0
 
-add-i : tie.Need-add-i Inv-loop μ-loop Inv-places μ-places
-add-i c = omega arith
-
-places-less : tie.Need-places-less Inv-loop μ-loop Inv-places μ-places
-places-less c = omega arith
-
-places-again : tie.Need-places-again Inv-loop μ-loop Inv-places μ-places
-places-again c =
-    let at = c .before .before .before in
-    let s = at .before .before .args .s .now in
-    at .places .inv ∙ scan-on s (at .places .i) (c .before .before .if1 .left) (no-mark-no-frame s (at .places .i) (c .if2 .taken))
+add-if1 : tie.Need-add-if1 Inv-loop μ-loop Inv-places μ-places
+add-if1 c = omega arith
 
 span-requires : tie.Need-span-requires Inv-loop μ-loop Inv-places μ-places
-span-requires c κs = omega arith
+span-requires c κs = (omega arith, c .before .mark-from .ensures .2 (omega arith))
 
 loop-holds : tie.Need-loop-holds Inv-loop μ-loop Inv-places μ-places
 loop-holds c = (search needs, from-zero _, λ e z. absurd (z (sym e)))
@@ -91,8 +82,8 @@ shared-slice-read-number16-2 c = omega arith
 number16-requires : tie.Need-number16-requires Inv-loop μ-loop Inv-places μ-places
 number16-requires c κs = search needs
 
-add-t27 : tie.Need-add-t27 Inv-loop μ-loop Inv-places μ-places
-add-t27 c = omega arith
+add-t26 : tie.Need-add-t26 Inv-loop μ-loop Inv-places μ-places
+add-t26 c = omega arith
 
 loop-less : tie.Need-loop-less Inv-loop μ-loop Inv-places μ-places
 loop-less c = omega arith
@@ -102,12 +93,12 @@ loop-again c =
     let stepped = c .before .before .before .before .before in
     let l = stepped .before .before .before .loop in
     let span = stepped .before .before .before .before .span in
-    let i = stepped .before .before .before .before .before .before .before .before .places .i in
+    let i = stepped .before .before .before .before .before .before .mark-from .result in
     let more = stepped .before .before .loop-test .taken in
-    let s = stepped .before .before .before .before .before .before .before .before .before .before .args .s .now in (
+    let s = stepped .before .before .before .before .before .before .before .before .before .args .s .now in (
       omega arith,
       sum-more s i (span .result) (span .ensures .1) (l .k) more (l .sum) _ (stepped .crc-step .ensures) (l .inv .1),
-      λ e z. sum-differs s i (span .result) _ _ (sum-whole s i (span .result) (span .ensures .1) (l .k) more (l .sum) _ (stepped .crc-step .ensures) (l .inv .1) e) (c .before .number16 .ensures) (c .if4 .left),
+      λ e z. sum-differs s i (span .result) _ _ (sum-whole s i (span .result) (span .ensures .1) (l .k) more (l .sum) _ (stepped .crc-step .ensures) (l .inv .1) e) (c .before .number16 .ensures) (c .if3 .left),
     )
 
 loop-less-2 : tie.Need-loop-less-2 Inv-loop μ-loop Inv-places μ-places
@@ -118,46 +109,49 @@ loop-again-2 c =
     let stepped = c .before in
     let l = stepped .before .before .before .loop in
     let span = stepped .before .before .before .before .span in
-    let i = stepped .before .before .before .before .before .before .before .before .places .i in
+    let i = stepped .before .before .before .before .before .before .mark-from .result in
     let more = stepped .before .before .loop-test .taken in
-    let s = stepped .before .before .before .before .before .before .before .before .before .before .args .s .now in (
+    let s = stepped .before .before .before .before .before .before .before .before .before .args .s .now in (
       omega arith,
       sum-more s i (span .result) (span .ensures .1) (l .k) more (l .sum) _ (stepped .crc-step .ensures) (l .inv .1),
-      λ e z. absurd (c .if3 .left e),
+      λ e z. absurd (c .if2 .left e),
     )
 
-add-i-2 : tie.Need-add-i-2 Inv-loop μ-loop Inv-places μ-places
-add-i-2 c = omega arith
+add-i : tie.Need-add-i Inv-loop μ-loop Inv-places μ-places
+add-i c = omega arith
 
-places-less-2 : tie.Need-places-less-2 Inv-loop μ-loop Inv-places μ-places
-places-less-2 c = omega arith
+places-less : tie.Need-places-less Inv-loop μ-loop Inv-places μ-places
+places-less c = omega (arith, c .before .before .before .before .mark-from .ensures .1)
 
-places-again-2 : tie.Need-places-again-2 Inv-loop μ-loop Inv-places μ-places
-places-again-2 c =
+places-again : tie.Need-places-again Inv-loop μ-loop Inv-places μ-places
+places-again c =
     let l = c .before .loop in
     let span = c .before .before .span in
-    let at = c .before .before .before .before .before .before in
-    let s = at .before .before .args .s .now in
+    let marked = c .before .before .before .before in
+    let i = marked .mark-from .result in
+    let s = marked .before .before .before .args .s .now in
     let k : l .k ≡ span .result = omega arith in
-    at .places .inv ∙ scan-on s (at .places .i) (c .before .before .before .before .before .if1 .left) (passed s (at .places .i) (span .result) (span .ensures .0) (l .inv .2 k))
+    (omega arith, marked .before .places .inv .1 ∙ marked .mark-from .ensures .3 ∙ scan-on s i (omega arith) (passed s i (span .result) (span .ensures .0) (l .inv .2 k)))
 
 returns : tie.Need-returns Inv-loop μ-loop Inv-places μ-places
 returns c =
-    let at = c .before in
-    sym (at .places .inv ∙ scan-end (at .before .before .args .s .now) (at .places .i) (c .if1 .taken))
+    let marked = c .before in
+    sym (marked .before .places .inv .1 ∙ marked .mark-from .ensures .3 ∙ scan-short (marked .before .before .before .args .s .now) _ (marked .mark-from .result) (c .if1 .taken))
 
 returns-2 : tie.Need-returns-2 Inv-loop μ-loop Inv-places μ-places
 returns-2 c =
     let stepped = c .before .before .before .before .before in
     let l = stepped .before .before .before .loop in
     let span = stepped .before .before .before .before .span in
-    let i = stepped .before .before .before .before .before .before .before .before .places .i in
+    let i = stepped .before .before .before .before .before .before .mark-from .result in
     let more = stepped .before .before .loop-test .taken in
-    let s = stepped .before .before .before .before .before .before .before .before .before .before .args .s .now in
-    let sums = sum-whole s i (span .result) (span .ensures .1) (l .k) more (l .sum) _ (stepped .crc-step .ensures) (l .inv .1) (c .before .before .before .before .if3 .taken) in
+    let s = stepped .before .before .before .before .before .before .before .before .before .args .s .now in
+    let marked = stepped .before .before .before .before .before .before in
+    let sums = sum-whole s i (span .result) (span .ensures .1) (l .k) more (l .sum) _ (stepped .crc-step .ensures) (l .inv .1) (c .before .before .before .before .if2 .taken) in
     let some : span .result ≡ 0 → ⊥ = λ z. omega (arith, more) in
-    let f = found s i (span .result) (span .ensures .0) some (sum-agrees s i (span .result) _ _ sums (c .before .number16 .ensures) (c .if4 .taken)) in
-    ap (At i) (f .1) ∙ sym (stepped .before .before .before .before .before .before .before .before .places .inv ∙ scan-here s i (stepped .before .before .before .before .before .before .before .if1 .left) (f .0))
+    let f = found s i (span .result) (span .ensures .0) some (sum-agrees s i (span .result) _ _ sums (c .before .number16 .ensures) (c .if3 .taken)) in
+    let fits : i < length s = omega (arith, stepped .before .before .before .before .before .if1 .left) in
+    ap (At i) (f .1) ∙ sym (marked .before .places .inv .1 ∙ marked .mark-from .ensures .3 ∙ scan-here s i fits (f .0))
 
 pub find-spec : {M : Type 1} → statement M
 find-spec =
@@ -168,10 +162,8 @@ find-spec =
     Inv-places
     μ-places
     places-holds
-    shared-slice-read-if2
-    add-i
-    places-less
-    places-again
+    mark-from-requires
+    add-if1
     span-requires
     loop-holds
     add-crc-step
@@ -186,13 +178,13 @@ find-spec =
     add-number16-4
     shared-slice-read-number16-2
     number16-requires
-    add-t27
+    add-t26
     loop-less
     loop-again
     loop-less-2
     loop-again-2
-    add-i-2
-    places-less-2
-    places-again-2
+    add-i
+    places-less
+    places-again
     returns
     returns-2)
