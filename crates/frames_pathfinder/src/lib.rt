@@ -8,7 +8,6 @@ use refusals::Refusal;
 use refusals::refuse;
 ghost use mathlib.Core.Path.{_≡_};
 ghost use mathlib.Core.List.{[], _∷_};
-ghost use Prim.Native.Nat.{_<_};
 ghost use lib.Dec.{eqb};
 ghost use Rattle.checks.specs.Crc.{crcOf};
 ghost use Rattle.numbers.specs.declared.Order.the-variants.{HighFirst};
@@ -37,7 +36,7 @@ pub fn read_frame(s: &[u8]) -> Frame
     // Places are counted from the input's end, so that every test can be made, whatever the others say; the refusals are a ladder in the order of 01.
     let last = s.len() - 1;
     let starts = s[0] == 0xFE;
-    let fits = s.len() == wide(s[1]) + 5;
+    let fits = s.len() == s[1] as usize + 5;
     let ends = s[last] == 0xFD;
     if !starts {
         return refused(refusals::FIRST_MARK);
@@ -71,11 +70,4 @@ fn refused(number: u8) -> Frame
     ensures { λ r. ⌜ r ≡ Frame.Refused (refusedWith number) ⌝ }
 {
     Frame::Refused(refuse(number))
-}
-
-// A byte as a count.
-fn wide(b: u8) -> usize
-    ensures { λ r. ⌜ (r ≡ b) × (r < 256) ⌝ }
-{
-    b as usize
 }

@@ -29,7 +29,7 @@ pub fn read_frame(s: &[u8]) -> Frame
     }
     // Of 6 bytes or more every test can be made, whatever the others say; the refusals are a ladder in the order of 01.
     let starts = s[0] == 0x7F;
-    let fits = s.len() == wide(s[3]);
+    let fits = s.len() == s[3] as usize;
     let closes = sum256(s) == 0;
     let addressed = is_addressed(s[1], s[2]);
     if !starts {
@@ -62,11 +62,4 @@ fn refused(number: u8) -> Frame
     ensures { λ r. ⌜ r ≡ Frame.Refused (refusedWith number) ⌝ }
 {
     Frame::Refused(refuse(number))
-}
-
-// A byte as a count.
-fn wide(b: u8) -> usize
-    ensures { λ r. ⌜ r ≡ b ⌝ }
-{
-    b as usize
 }

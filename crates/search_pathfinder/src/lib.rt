@@ -59,7 +59,7 @@ fn span(s: &[u8], i: usize) -> usize
     requires { ⌜ (i + 6 ≤ length (now s)) × (getD (now s) i 0 ≡ 0xFE) ⌝ }
     ensures { λ r. ⌜ (r ≡ spanOf (now (s .entry)) i) × (r ≤ length (now (s .entry)) - (i + 4)) ⌝ }
 {
-    let n = wide(s[i + 1]);
+    let n = s[i + 1] as usize;
     if n == 0 {
         return 0;
     }
@@ -70,11 +70,4 @@ fn span(s: &[u8], i: usize) -> usize
         return 0;
     }
     n + 1
-}
-
-// A byte as a count.
-fn wide(b: u8) -> usize
-    ensures { λ r. ⌜ (r ≡ b) × (r < 256) ⌝ }
-{
-    b as usize
 }

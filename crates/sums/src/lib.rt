@@ -47,14 +47,8 @@ fn sum65536(s: &[u8]) -> u32
     let mut t: u32 = 0;
     let mut i = 0;
     while i < s.len() {
-        t = wrapping_add_u32(t, wide(s[i]));
+        t = wrapping_add_u32(t, s[i] as u32);
         i += 1;
     }
     t % 65536
-}
-
-fn wide(x: u8) -> u32
-    ensures { λ r. ⌜ r ≡ x ⌝ }
-{
-    x as u32
 }

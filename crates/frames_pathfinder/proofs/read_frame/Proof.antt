@@ -1,24 +1,20 @@
 -- `frames_pathfinder::read_frame` meets its contract: each way out is a law of the ladder, from the tests that led there.
 -- Assumes nothing.
-use mathlib.Core.Path.{_≡_, sym, ap, _∙_}
+use mathlib.Core.Path.{sym, _∙_}
 use mathlib.Core.List.{List}
-use Prim.Native.Nat.{ℕ, _+_}
+use Prim.Native.Nat.{ℕ}
+use native.Mathlib.Omega.{arith}
+use mir.Syntax.{w8}
+use mir.Facts.{fits-widen}
 use borrow.Author.Tests.{not-true, not-false}
-use lib.Dec.{eqb}
-use lib.ListN.{length}
 use Rattle.frames_pathfinder.proofs.Ladder.{too-short, wrong-start, wrong-length, Fitting, wrong-end, wrong-sum, taken}
 use borrow.Author.Needs.{needs}
-use Rattle.frames_pathfinder.specs.Reading.{declared}
 use Rattle.frames_pathfinder.proofs.read_frame.Statement.{statement}
 use Rattle.frames_pathfinder.proofs.read_frame.Tie as tie
 
--- the bytes, as they stand where the length was taken
-abbrev bytes : tie.After-wide → List ℕ
-bytes c = c .before .before .before .before .before .args .s .now
-
--- the test of the length is the definition's
-length-test : (c : tie.After-wide) → eqb (length (bytes c)) (declared (bytes c) + 5) ≡ eqb (length (bytes c)) (c .wide .result + 5)
-length-test c = ap (λ (n : ℕ). eqb (length (bytes c)) (n + 5)) (sym (c .wide .ensures .0))
+-- the bytes, as they stand where mark and length are right
+abbrev bytes : tie.Else3 → List ℕ
+bytes c = c .before .before .before .before .before .before .before .args .s .now
 
 refused-requires : tie.Need-refused-requires
 refused-requires c κs = search needs
@@ -32,14 +28,14 @@ sub-last c = search needs
 shared-slice-read-starts : tie.Need-shared-slice-read-starts
 shared-slice-read-starts c = search needs
 
-shared-slice-read-wide : tie.Need-shared-slice-read-wide
-shared-slice-read-wide c = search needs
+shared-slice-read-fits : tie.Need-shared-slice-read-fits
+shared-slice-read-fits c = search needs
 
-wide-requires : tie.Need-wide-requires
-wide-requires c κs = search needs
+cast-fits : tie.Need-cast-fits
+cast-fits c = fits-widen {w = w8} tt (c .shared-slice-known3 .given _)
 
 add-fits : tie.Need-add-fits
-add-fits c = search needs
+add-fits c = omega (arith, c .shared-slice-known3 .given 1)
 
 shared-slice-read-ends : tie.Need-shared-slice-read-ends
 shared-slice-read-ends c = search needs
@@ -57,7 +53,7 @@ returns-3 : tie.Need-returns-3
 returns-3 c =
     let two = c .before .before in
     c .refused3 .ensures
-    ∙ wrong-length _ (search needs) (not-false _ (two .if2 .left)) (length-test (two .before .before) ∙ not-true _ (c .before .if3 .taken))
+    ∙ wrong-length _ (search needs) (not-false _ (two .if2 .left)) (not-true _ (c .before .if3 .taken))
 
 sub-has-sum : tie.Need-sub-has-sum
 sub-has-sum c = search needs
@@ -87,12 +83,12 @@ has-sum-requires : tie.Need-has-sum-requires
 has-sum-requires c κs = search needs
 
 -- what is known where mark and length are right
-fitting : (c : tie.Else3) → Fitting (bytes (c .before .before .before))
+fitting : (c : tie.Else3) → Fitting (bytes c)
 fitting c =
     record {
       long = search needs;
       starts = not-false _ (c .before .if2 .left);
-      fits = length-test (c .before .before .before) ∙ not-false _ (c .if3 .left);
+      fits = not-false _ (c .if3 .left);
     }
 
 refused-requires-4 : tie.Need-refused-requires-4
@@ -133,8 +129,8 @@ read-frame-spec =
     returns
     sub-last
     shared-slice-read-starts
-    shared-slice-read-wide
-    wide-requires
+    shared-slice-read-fits
+    cast-fits
     add-fits
     shared-slice-read-ends
     refused-requires-2

@@ -1,12 +1,13 @@
 -- `frames_tongzhu::read_frame` meets its contract: each way out is a law of the ladder, from the tests that led there.
 -- Assumes nothing.
-use mathlib.Core.Path.{_≡_, sym, ap, _∙_}
+use mathlib.Core.Path.{_≡_, sym, _∙_}
 use mathlib.Core.List.{List}
 use Prim.Native.Nat.{ℕ}
+use mir.Syntax.{w8}
+use mir.Facts.{fits-widen}
 use borrow.Author.Needs.{needs}
 use borrow.Author.Tests.{not-true, not-false}
 use lib.Dec.{eqb}
-use lib.ListN.{length, getD}
 use Rattle.sums.specs.Sums.{total, closes}
 use Rattle.frames_tongzhu.specs.Reading.{checked, check}
 use Rattle.frames_tongzhu.proofs.Ladder.{check-test, too-short, wrong-mark, wrong-length, Fitting, wrong-check, wrong-address, taken}
@@ -15,12 +16,9 @@ use Rattle.frames_tongzhu.proofs.read_frame.Tie as tie
 
 -- the bytes, as they stand where all tests were made
 abbrev bytes : tie.After-is-addressed → List ℕ
-bytes c = c .before .before .before .before .before .before .before .before .before .args .s .now
+bytes c = c .before .before .before .before .before .before .before .before .args .s .now
 
--- the tests are the definition's
-fits : (c : tie.After-is-addressed) → eqb (length (bytes c)) (getD (bytes c) 3 0) ≡ eqb (length (bytes c)) (c .before .before .before .before .wide .result)
-fits c = ap (eqb (length (bytes c))) (sym (c .before .before .before .before .wide .ensures))
-
+-- the test of the check is the definition's
 closed : (c : tie.After-is-addressed) → closes 256 (total (checked (bytes c))) (check (bytes c)) ≡ eqb (c .before .before .before .sum256 .result) 0
 closed c = check-test (bytes c) _ (search needs) (c .before .before .before .sum256 .ensures)
 
@@ -33,11 +31,11 @@ returns c = c .refused .ensures ∙ too-short _ (search needs)
 shared-slice-read-starts : tie.Need-shared-slice-read-starts
 shared-slice-read-starts c = search needs
 
-shared-slice-read-wide : tie.Need-shared-slice-read-wide
-shared-slice-read-wide c = search needs
+shared-slice-read-fits : tie.Need-shared-slice-read-fits
+shared-slice-read-fits c = search needs
 
-wide-requires : tie.Need-wide-requires
-wide-requires c κs = search needs
+cast-fits : tie.Need-cast-fits
+cast-fits c = fits-widen {w = w8} tt (c .shared-slice-known3 .given _)
 
 sum256-requires : tie.Need-sum256-requires
 sum256-requires c κs = search needs
@@ -63,7 +61,7 @@ refused-requires-3 c κs = search needs
 returns-3 : tie.Need-returns-3
 returns-3 c =
     let two = c .before .before in
-    c .refused3 .ensures ∙ wrong-length _ (search needs) (not-false _ (two .if2 .left)) (fits (two .before) ∙ not-true _ (c .before .if3 .taken))
+    c .refused3 .ensures ∙ wrong-length _ (search needs) (not-false _ (two .if2 .left)) (not-true _ (c .before .if3 .taken))
 
 -- what is known where mark and length are right
 fitting : (c : tie.Else3) → Fitting (bytes (c .before .before))
@@ -71,7 +69,7 @@ fitting c =
     record {
       long = search needs;
       starts = not-false _ (c .before .if2 .left);
-      fits = fits (c .before .before) ∙ not-false _ (c .if3 .left);
+      fits = not-false _ (c .if3 .left);
     }
 
 refused-requires-4 : tie.Need-refused-requires-4
@@ -96,8 +94,8 @@ returns-5 c =
 shared-slice-read-t14 : tie.Need-shared-slice-read-t14
 shared-slice-read-t14 c = search needs
 
-sub-t10 : tie.Need-sub-t10
-sub-t10 c = search needs
+sub-t11 : tie.Need-sub-t11
+sub-t11 c = search needs
 
 returns-6 : tie.Need-returns-6
 returns-6 c =
@@ -113,8 +111,8 @@ read-frame-spec =
     refused-requires
     returns
     shared-slice-read-starts
-    shared-slice-read-wide
-    wide-requires
+    shared-slice-read-fits
+    cast-fits
     sum256-requires
     shared-slice-read-is-addressed
     shared-slice-read-is-addressed-2
@@ -128,5 +126,5 @@ read-frame-spec =
     refused-requires-5
     returns-5
     shared-slice-read-t14
-    sub-t10
+    sub-t11
     returns-6)

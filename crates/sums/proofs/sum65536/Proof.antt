@@ -2,6 +2,8 @@
 -- Assumes nothing.
 use Prim.Native.Nat.{_+_, _-_, _%_, _≤_, _<_}
 use mathlib.Core.Path.{_≡_}
+use mir.Syntax.{w8}
+use mir.Facts.{fits-widen}
 use lib.ListN.{length, drop}
 use Rattle.sums.specs.Sums.{total}
 use Rattle.sums.proofs.Adding.{total-next, total-none}
@@ -19,11 +21,11 @@ abbrev μ-loop : tie.MeasureT-loop
 loop-holds : tie.Need-loop-holds Inv-loop μ-loop
 loop-holds c = (omega arith, omega arith, omega arith)
 
-shared-slice-read-wide : tie.Need-shared-slice-read-wide Inv-loop μ-loop
-shared-slice-read-wide c = search needs
+shared-slice-read-wrapping-add-u32 : tie.Need-shared-slice-read-wrapping-add-u32 Inv-loop μ-loop
+shared-slice-read-wrapping-add-u32 c = search needs
 
-wide-requires : tie.Need-wide-requires Inv-loop μ-loop
-wide-requires c κs = search needs
+cast-wrapping-add-u32 : tie.Need-cast-wrapping-add-u32 Inv-loop μ-loop
+cast-wrapping-add-u32 c = fits-widen {w = w8} tt (c .shared-slice-known2 .given _)
 
 wrapping-add-u32-requires : tie.Need-wrapping-add-u32-requires Inv-loop μ-loop
 wrapping-add-u32-requires c κs = search needs
@@ -36,8 +38,8 @@ loop-less c = omega arith
 
 loop-again : tie.Need-loop-again Inv-loop μ-loop
 loop-again c =
-    let s = c .before .before .before .before .before .before .args .s .now in
-    let l = c .before .before .before .before .loop in
+    let s = c .before .before .before .before .before .args .s .now in
+    let l = c .before .before .before .loop in
     let next = total-next s (l .i) (omega arith) in (omega arith, omega arith, omega arith)
 
 returns : tie.Need-returns Inv-loop μ-loop
@@ -53,8 +55,8 @@ sum65536-spec =
     Inv-loop
     μ-loop
     loop-holds
-    shared-slice-read-wide
-    wide-requires
+    shared-slice-read-wrapping-add-u32
+    cast-wrapping-add-u32
     wrapping-add-u32-requires
     add-i
     loop-less
