@@ -1,10 +1,31 @@
--- `flat_tongzhu::monitor2_numbers` meets its contract, number by number: each fits by what is known of the record.
+-- `flat_tongzhu::monitor2_numbers` meets its contract, number by number; each fits by what is known of the record.
 -- Assumes nothing.
 use mathlib.Core.Path.{refl}
 use mir.Syntax.{w8, w16}
 use Rattle.widths.proofs.Widening.{fits, then, signed-fits, signed-then}
 use Rattle.flat_tongzhu.proofs.monitor2_numbers.Statement.{statement}
 use Rattle.flat_tongzhu.proofs.monitor2_numbers.Tie as tie
+
+returns : tie.Need-returns
+returns c =
+    let m = c .before .before .before .before .before .before .before .before .before .before .before .before .before .before .before .before .before .before .args .m in
+    let k = c .struct-known14 .given in
+    let v = c .before .before .before .before .struct-told3 .given in
+    then tt (k .0 .0)
+    (then tt (k .0 .1 .0)
+    (then tt (k .0 .1 .1 .0)
+    (then tt (k .0 .1 .1 .1 .0)
+    (signed-then w16 (m .current) tt (record { sfits = v .1 .0 .1 })
+    (then tt (k .1 .1 .0)
+    (then tt (k .1 .1 .1 .0)
+    (then tt (k .1 .1 .1 .1 .0)
+    (signed-then w8 (m .hottest) tt (record { sfits = v .1 .1 .1 .1 .1 .0 .1 })
+    (signed-then w8 (m .coldest) tt (record { sfits = v .1 .1 .1 .1 .1 .1 .0 .1 })
+    (then tt (k .1 .1 .1 .1 .1 .1 .1 .0)
+    (then tt (k .1 .1 .1 .1 .1 .1 .1 .1 .0)
+    (then tt (k .1 .1 .1 .1 .1 .1 .1 .1 .1 .0)
+    (then tt (k .1 .1 .1 .1 .1 .1 .1 .1 .1 .1 .0)
+    refl)))))))))))))
 
 cast-t3 : tie.Need-cast-t3
 cast-t3 c = fits tt (c .struct-known .given .0)
@@ -47,27 +68,6 @@ cast-t15 c = fits tt (c .struct-known13 .given .1 .1 .1 .1 .1 .1 .1 .1 .1 .0)
 
 cast-t16 : tie.Need-cast-t16
 cast-t16 c = fits tt (c .struct-known14 .given .1 .1 .1 .1 .1 .1 .1 .1 .1 .1 .0)
-
-returns : tie.Need-returns
-returns c =
-    let m = c .before .before .before .before .before .before .before .before .before .before .before .before .before .before .before .before .before .before .args .m in
-    let k = c .struct-known14 .given in
-    let v = c .before .before .before .before .struct-told3 .given in
-    then tt (k .0 .0)
-    (then tt (k .0 .1 .0)
-    (then tt (k .0 .1 .1 .0)
-    (then tt (k .0 .1 .1 .1 .0)
-    (signed-then w16 (m .current) tt (record { sfits = v .1 .0 .1 })
-    (then tt (k .1 .1 .0)
-    (then tt (k .1 .1 .1 .0)
-    (then tt (k .1 .1 .1 .1 .0)
-    (signed-then w8 (m .hottest) tt (record { sfits = v .1 .1 .1 .1 .1 .0 .1 })
-    (signed-then w8 (m .coldest) tt (record { sfits = v .1 .1 .1 .1 .1 .1 .0 .1 })
-    (then tt (k .1 .1 .1 .1 .1 .1 .1 .0)
-    (then tt (k .1 .1 .1 .1 .1 .1 .1 .1 .0)
-    (then tt (k .1 .1 .1 .1 .1 .1 .1 .1 .1 .0)
-    (then tt (k .1 .1 .1 .1 .1 .1 .1 .1 .1 .1 .0)
-    refl)))))))))))))
 
 pub monitor2-numbers-spec : {M : Type 1} → statement M
 monitor2-numbers-spec = tie.close (tie.spec cast-t3 cast-t4 cast-t5 cast-t6 cast-t7 cast-t8 cast-t9 cast-t10 cast-t11 cast-t12 cast-t13 cast-t14 cast-t15 cast-t16 returns)

@@ -17,12 +17,12 @@ two-at-requires c κs = search needs
 cast-result : tie.Need-cast-result
 cast-result c = search needs
 
-sub-result : tie.Need-sub-result
-sub-result c = minus-fits w32 (c .two-at .result) 276 (omega (arith, c .two-at .ok)) (omega arith)
-
 returns : tie.Need-returns
 unfolding degreesAt
 returns c = minus-held w32 (c .two-at .result) 276 (omega (arith, c .two-at .ok)) (omega arith) ∙ ap (λ (n : ℕ). pos n -ℤ pos 276) (c .two-at .ensures)
+
+sub-result : tie.Need-sub-result
+sub-result c = minus-fits w32 (c .two-at .result) 276 (omega (arith, c .two-at .ok)) (omega arith)
 
 pub degrees-at-spec : {M : Type 1} → statement M
 degrees-at-spec = tie.close (tie.spec two-at-requires cast-result sub-result returns)
