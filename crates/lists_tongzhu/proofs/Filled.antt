@@ -7,7 +7,7 @@ use native.Mathlib.Numerals.{add-one}
 use native.Mathlib.Omega.{arith}
 use borrow.Author.Tests.{le-leb}
 use borrow.Rule.Slice.PartMut.{putMid}
-use lib.IntN.{ℤ}
+use lib.IntN.{ℤ, pos}
 use lib.ListN.{length, take, drop, replicate, length-append, length-drop, length-replicate, replicate-append-replicate}
 use lib.Seq.{drop-drop}
 use Rattle.laws.specs.Firsts.{firsts}
@@ -20,6 +20,11 @@ pub places-length : {A : Type 0} (k : ℕ) (z : A) (f : ℕ → A) (n : ℕ) →
 places-length k z f n h =
     length-append (firsts f n) (drop n (replicate k z))
     ∙ omega (arith, firsts-length f n, length-drop n (replicate k z), length-replicate k z)
+
+-- a row that is filled from the front to n, and had 0 in the places past that
+pub filled-places : (f : ℕ → ℤ) (n i k : ℕ) (before row : List ℤ) → row ≡ firsts f i ++ drop i before → i ≡ n → drop n before ≡ drop n (replicate k (pos 0))
+    → row ≡ placesOf k (pos 0) f n
+filled-places f n i k before row filled e past = filled ∙ ap (λ (j : ℕ). firsts f j ++ drop j before) e ∙ ap (λ (rest : List ℤ). firsts f n ++ rest) past
 
 module _ {A B : Type 0} (h : A → B) where
   map-firsts : (f : ℕ → A) (n : ℕ) → map h (firsts f n) ≡ firsts (λ i. h (f i)) n

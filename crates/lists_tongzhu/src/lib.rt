@@ -7,7 +7,7 @@ use signs::signed8;
 ghost use mathlib.Core.Path.{_≡_};
 ghost use Prim.Native.Nat.{_+_, _*_, _≤_};
 ghost use lib.IntN.{pos};
-ghost use lib.ListN.{length, getD, replicate};
+ghost use lib.ListN.{length, getD, drop, replicate};
 ghost use Rattle.exports_parts.specs.Parts.{fitCode};
 ghost use Rattle.monitor3_tongzhu.specs.Values.{numberAt, temperatureAt, placesOf};
 ghost use Rattle.monitor3_tongzhu.specs.Layout.{listsAt};
@@ -42,7 +42,7 @@ fn put_voltages(p: &[u8], from: usize, n: usize, row: &mut [i32])
     requires { ⌜ (n ≤ length (now row)) × (from + 2 * n ≤ length (now p)) ⌝ }
     ensures { λ _. ⌜ now (row .exit) ≡ placesOf (length (now (row .entry))) (pos 0) (λ i. pos (numberAt (now (p .entry)) (from + 2 * i))) n ⌝ }
 {
-    clear(row);
+    clear_past(n, row);
     let mut i = 0;
     while i < n {
         row[i] = number16(Order::LowFirst, p[from + 2 * i], p[from + 2 * i + 1]) as i32;
@@ -55,7 +55,7 @@ fn put_flags(p: &[u8], from: usize, n: usize, row: &mut [i32])
     requires { ⌜ (n ≤ length (now row)) × (from + n ≤ length (now p)) ⌝ }
     ensures { λ _. ⌜ now (row .exit) ≡ placesOf (length (now (row .entry))) (pos 0) (λ i. pos (getD (now (p .entry)) (from + i) 0)) n ⌝ }
 {
-    clear(row);
+    clear_past(n, row);
     let mut i = 0;
     while i < n {
         row[i] = p[from + i] as i32;
@@ -68,11 +68,21 @@ fn put_temperatures(p: &[u8], from: usize, n: usize, row: &mut [i32])
     requires { ⌜ (n ≤ length (now row)) × (from + n ≤ length (now p)) ⌝ }
     ensures { λ _. ⌜ now (row .exit) ≡ placesOf (length (now (row .entry))) (pos 0) (λ i. temperatureAt (now (p .entry)) (from + i)) n ⌝ }
 {
-    clear(row);
+    clear_past(n, row);
     let mut i = 0;
     while i < n {
         row[i] = signed8(p[from + i]) as i32;
         i += 1;
+    }
+}
+
+// Leaves 0 in the places past the first n; where there are none, nothing has to be written.
+fn clear_past(n: usize, row: &mut [i32])
+    requires { ⌜ n ≤ length (now row) ⌝ }
+    ensures { λ _. ⌜ (length (now (row .exit)) ≡ length (now (row .entry))) × (drop n (now (row .exit)) ≡ drop n (replicate (length (now (row .entry))) (pos 0))) ⌝ }
+{
+    if n < row.len() {
+        clear(row);
     }
 }
 

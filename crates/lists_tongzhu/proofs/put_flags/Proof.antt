@@ -1,8 +1,8 @@
--- `lists_tongzhu::put_flags` meets its contract. The loop's invariant: the first i places have their bytes, all else is as it was cleared.
+-- `lists_tongzhu::put_flags` meets its contract. The loop's invariant: the first i places have their bytes, all else is as it was.
 -- Assumes nothing.
 use borrow.Author.Needs.{needs}
 use Prim.Native.Nat.{ℕ, _+_, _-_, _≤_}
-use mathlib.Core.Path.{_≡_, ap₂, _∙_}
+use mathlib.Core.Path.{_≡_, ap, _∙_}
 use mathlib.Core.List.{List, _++_}
 use native.Mathlib.Omega.{arith}
 use lib.IntN.{ℤ, pos}
@@ -10,6 +10,7 @@ use lib.ListN.{length, getD, drop, length-set}
 use Rattle.laws.specs.Firsts.{firsts}
 use Rattle.laws.proofs.Firsts.{firsts-more}
 use Rattle.widths.proofs.Widening.{fits, reads}
+use Rattle.lists_tongzhu.proofs.Filled.{filled-places}
 use Rattle.lists_tongzhu.proofs.put_flags.Statement.{statement}
 use Rattle.lists_tongzhu.proofs.put_flags.Tie as tie
 
@@ -19,8 +20,8 @@ Inv-loop p from n row₀ i₀ row i = (i ≤ n) × (row ≡ firsts (λ (k : ℕ)
 abbrev μ-loop : tie.MeasureT-loop
 μ-loop p from n row₀ i₀ row i = n - i
 
-clear-requires : tie.Need-clear-requires Inv-loop μ-loop
-clear-requires c κs = search needs
+clear-past-requires : tie.Need-clear-past-requires Inv-loop μ-loop
+clear-past-requires c κs = search needs
 
 loop-holds : tie.Need-loop-holds Inv-loop μ-loop
 unfolding firsts
@@ -65,7 +66,7 @@ returns c =
     let l = c .before .loop in
     let a = c .before .before .before .before .before .before .args in
     let e : l .i ≡ a .n = omega arith in
-    l .inv .1 ∙ ap₂ (λ (k : ℕ) (r : List ℤ). firsts (λ (k : ℕ). pos (getD (a .p .now) (a .from + k) 0)) k ++ drop k r) e (c .before .before .before .clear .ensures)
+    filled-places _ _ _ (length (a .row .now)) _ _ (l .inv .1) e (c .before .before .before .clear-past .ensures .1)
 
 pub put-flags-spec : {M : Type 1} → statement M
 put-flags-spec =
@@ -73,7 +74,7 @@ put-flags-spec =
     (tie.spec
     Inv-loop
     μ-loop
-    clear-requires
+    clear-past-requires
     loop-holds
     add-row
     shared-slice-read-row

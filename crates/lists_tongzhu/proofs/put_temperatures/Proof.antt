@@ -1,9 +1,8 @@
--- `lists_tongzhu::put_temperatures` meets its contract. The loop's invariant: the first i places have their temperatures, all else is as it was
--- cleared.
+-- `lists_tongzhu::put_temperatures` meets its contract. The loop's invariant: the first i places have their temperatures, all else is as it was.
 -- Assumes nothing.
 use borrow.Author.Needs.{needs}
 use Prim.Native.Nat.{ℕ, _+_, _-_, _≤_}
-use mathlib.Core.Path.{_≡_, ap₂, _∙_}
+use mathlib.Core.Path.{_≡_, ap, _∙_}
 use mathlib.Core.List.{List, _++_}
 use native.Mathlib.Omega.{arith}
 use lib.IntN.{ℤ}
@@ -13,6 +12,7 @@ use Rattle.laws.specs.Firsts.{firsts}
 use Rattle.laws.proofs.Firsts.{firsts-more}
 use Rattle.widths.proofs.Widening.{signed-fits, signed-reads}
 use Rattle.monitor3_tongzhu.specs.Values.{temperatureAt}
+use Rattle.lists_tongzhu.proofs.Filled.{filled-places}
 use Rattle.lists_tongzhu.proofs.put_temperatures.Statement.{statement}
 use Rattle.lists_tongzhu.proofs.put_temperatures.Tie as tie
 
@@ -22,8 +22,8 @@ Inv-loop p from n row₀ i₀ row i = (i ≤ n) × (row ≡ firsts (λ (k : ℕ)
 abbrev μ-loop : tie.MeasureT-loop
 μ-loop p from n row₀ i₀ row i = n - i
 
-clear-requires : tie.Need-clear-requires Inv-loop μ-loop
-clear-requires c κs = search needs
+clear-past-requires : tie.Need-clear-past-requires Inv-loop μ-loop
+clear-past-requires c κs = search needs
 
 loop-holds : tie.Need-loop-holds Inv-loop μ-loop
 unfolding firsts
@@ -72,7 +72,7 @@ returns c =
     let l = c .before .loop in
     let a = c .before .before .before .before .before .before .args in
     let e : l .i ≡ a .n = omega arith in
-    l .inv .1 ∙ ap₂ (λ (k : ℕ) (r : List ℤ). firsts (λ (k : ℕ). temperatureAt (a .p .now) (a .from + k)) k ++ drop k r) e (c .before .before .before .clear .ensures)
+    filled-places _ _ _ (length (a .row .now)) _ _ (l .inv .1) e (c .before .before .before .clear-past .ensures .1)
 
 pub put-temperatures-spec : {M : Type 1} → statement M
 put-temperatures-spec =
@@ -80,7 +80,7 @@ put-temperatures-spec =
     (tie.spec
     Inv-loop
     μ-loop
-    clear-requires
+    clear-past-requires
     loop-holds
     add-signed8
     shared-slice-read-signed8

@@ -1,8 +1,8 @@
--- `lists_tongzhu::put_voltages` meets its contract. The loop's invariant: the first i places have their voltages, all else is as it was cleared.
+-- `lists_tongzhu::put_voltages` meets its contract. The loop's invariant: the first i places have their voltages, all else is as it was.
 -- Assumes nothing.
 use borrow.Author.Needs.{needs}
 use Prim.Native.Nat.{ℕ, _+_, _-_, _*_, _≤_}
-use mathlib.Core.Path.{_≡_, ap, ap₂, _∙_}
+use mathlib.Core.Path.{_≡_, ap, _∙_}
 use mathlib.Core.List.{List, _++_}
 use native.Mathlib.Omega.{arith}
 use lib.IntN.{ℤ, pos}
@@ -12,6 +12,7 @@ use Rattle.laws.specs.Firsts.{firsts}
 use Rattle.laws.proofs.Firsts.{firsts-more}
 use Rattle.widths.proofs.Widening.{reads}
 use Rattle.monitor3_tongzhu.specs.Values.{numberAt}
+use Rattle.lists_tongzhu.proofs.Filled.{filled-places}
 use Rattle.lists_tongzhu.proofs.put_voltages.Statement.{statement}
 use Rattle.lists_tongzhu.proofs.put_voltages.Tie as tie
 
@@ -21,8 +22,8 @@ Inv-loop p from n row₀ i₀ row i = (i ≤ n) × (row ≡ firsts (λ (k : ℕ)
 abbrev μ-loop : tie.MeasureT-loop
 μ-loop p from n row₀ i₀ row i = n - i
 
-clear-requires : tie.Need-clear-requires Inv-loop μ-loop
-clear-requires c κs = search needs
+clear-past-requires : tie.Need-clear-past-requires Inv-loop μ-loop
+clear-past-requires c κs = search needs
 
 loop-holds : tie.Need-loop-holds Inv-loop μ-loop
 unfolding firsts
@@ -86,7 +87,7 @@ returns c =
     let l = c .before .loop in
     let a = c .before .before .before .before .before .before .args in
     let e : l .i ≡ a .n = omega arith in
-    l .inv .1 ∙ ap₂ (λ (k : ℕ) (r : List ℤ). firsts (λ (k : ℕ). pos (numberAt (a .p .now) (a .from + 2 * k))) k ++ drop k r) e (c .before .before .before .clear .ensures)
+    filled-places _ _ _ (length (a .row .now)) _ _ (l .inv .1) e (c .before .before .before .clear-past .ensures .1)
 
 pub put-voltages-spec : {M : Type 1} → statement M
 put-voltages-spec =
@@ -94,7 +95,7 @@ put-voltages-spec =
     (tie.spec
     Inv-loop
     μ-loop
-    clear-requires
+    clear-past-requires
     loop-holds
     mul-number16
     add-number16
