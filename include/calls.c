@@ -100,6 +100,14 @@ static void pathfinder(void) {
     CHECK(tracksaffron_pf_row(1, 0, -20, value, 1) == ANSWER(TRACKSAFFRON_PF_ROW_NUMBER, 1) && value[0] == -20);
     CHECK(tracksaffron_pf_row(3, 0, 5000, value, 1) == ANSWER(TRACKSAFFRON_PF_ROW_TEN_MILLIVOLTS, 1) && value[0] == 5000);
     CHECK(tracksaffron_pf_row(2, 43, 7, value, 1) == ANSWER(TRACKSAFFRON_PF_ROW_TRUTH, 1) && value[0] == 1);
+    for (uint8_t row_03 = 32; row_03 <= 45; row_03++)
+        CHECK(tracksaffron_pf_row(3, row_03, 65535, value, 1) == ANSWER(TRACKSAFFRON_PF_ROW_NUMBER, 1) && value[0] == 65535);
+    FRESH(value);
+    CHECK(tracksaffron_pf_row(3, 31, INT32_MAX, value, 1) == ANSWER(TRACKSAFFRON_PF_ROW_MISSING, 0));
+    CHECK(tracksaffron_pf_row(3, 46, 255, value, 1) == ANSWER(TRACKSAFFRON_PF_ROW_MISSING, 0));
+    CHECK(tracksaffron_pf_row(3, 47, 65535, value, 1) == ANSWER(TRACKSAFFRON_PF_ROW_MISSING, 0));
+    CHECK(tracksaffron_pf_row(3, 48, 65535, value, 1) == ANSWER(TRACKSAFFRON_PF_ROW_MISSING, 0));
+    CHECK(untouched(value, sizeof value));
 
     uint8_t log[32] = "log \xFE text ";
     memcpy(log + 11, set, sizeof set);

@@ -1,5 +1,5 @@
 -- A word narrowed to its row's type (01, Pathfinder): by its low bits, in two's complement for signed types. In reply 03 the largest value of a
--- type, and the smallest of a signed type, mean "no data"; bitfields and bools are never missing. Assumes nothing.
+-- type, and the smallest of a signed type, mean "no data"; bitfields, bools and counts (02, request 1) are never missing. Assumes nothing.
 use Prim.Native.Nat.{ℕ, _-_, _%_, _^_}
 use mathlib.Core.Bool.{Bool, _&&_, _||_, not}
 use lib.Dec.{eqb}
@@ -8,7 +8,7 @@ use Rattle.laws.specs.Choice.{pick}
 use Rattle.refusals.specs.Refused.{refusedWith, request, shape}
 use Rattle.signs.specs.Signed.{signedOf, bitsOf}
 use Rattle.types_pathfinder.specs.declared.RowType.{RowType}
-use Rattle.types_pathfinder.specs.declared.RowType.the-variants.{U8, I8, U16, I16, U32, I32, Bool as Boolean, TenMillivolts as Ten, Bits, NoRow, NoReply}
+use Rattle.types_pathfinder.specs.declared.RowType.the-variants.{U8, I8, U16, I16, U32, I32, Bool as Boolean, TenMillivolts as Ten, Bits, Count, NoRow, NoReply}
 use Rattle.types_pathfinder.specs.Types.{typeAt}
 use Rattle.rows_pathfinder.specs.declared.Row.{Row}
 use Rattle.rows_pathfinder.specs.declared.Row.the-variants.{Number, TenMillivolts, Truth, Missing, Refused}
@@ -38,6 +38,7 @@ byBits I32 may n = numberRow (may && extreme 31 n) (signedOf 31 n)
 byBits Boolean may n = Truth (not (eqb n 0))
 byBits Ten may n = tenRow (may && extreme 15 (n % 65536)) (n % 65536)
 byBits Bits may n = Number (pos n)
+byBits Count may n = Number (pos (n % 65536))
 byBits NoRow may n = Refused (refusedWith shape)
 byBits NoReply may n = Refused (refusedWith request)
 

@@ -48,6 +48,7 @@ fn by_bits(kind: RowType, may: bool, n: u32) -> Row
         RowType::Bool => Row::Truth(n != 0),
         RowType::TenMillivolts => ten_millivolts(edge(may, n % 65536, 32768), (n % 65536) as u16),
         RowType::Bits => unsigned(false, n, 4294967295),
+        RowType::Count => unsigned(false, n % 65536, 65535),
         RowType::NoRow => refused(refusals::SHAPE),
         RowType::NoReply => refused(refusals::REQUEST),
     }

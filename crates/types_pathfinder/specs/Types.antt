@@ -7,7 +7,7 @@ use lib.IntN.{ℤ, pos, negsuc}
 use lib.ListN.{length, getD}
 use Rattle.laws.specs.Choice.{pick}
 use Rattle.types_pathfinder.specs.declared.RowType.{RowType}
-use Rattle.types_pathfinder.specs.declared.RowType.the-variants.{U8, I8, U16, I16, U32, I32, Bool, TenMillivolts, Bits, NoRow, NoReply}
+use Rattle.types_pathfinder.specs.declared.RowType.the-variants.{U8, I8, U16, I16, U32, I32, Bool, TenMillivolts, Bits, Count, NoRow, NoReply}
 
 -- reply 02
 unfoldable pub settings : List RowType
@@ -16,12 +16,12 @@ settings =
     U8 ∷ U16 ∷ I32 ∷ U8 ∷ I32 ∷ U8 ∷ U8 ∷ U32 ∷ U8 ∷ U8 ∷ U8 ∷ U8 ∷ I32 ∷ I32 ∷ U8 ∷ I32 ∷ U8 ∷ I32 ∷
     U8 ∷ I16 ∷ U8 ∷ I16 ∷ U8 ∷ U32 ∷ Bool ∷ Bool ∷ Bool ∷ Bool ∷ U32 ∷ U8 ∷ U32 ∷ []
 
--- reply 03
+-- reply 03; the alarm counts and the reset count have a type of their own (02, request 1)
 unfoldable pub infos : List RowType
 infos =
     TenMillivolts ∷ I32 ∷ U32 ∷ U32 ∷ U32 ∷ U16 ∷ Bits ∷ Bits ∷ I32 ∷ I32 ∷ U8 ∷ U8 ∷ U8 ∷ U8 ∷ U8 ∷
     U8 ∷ I32 ∷ U8 ∷ U8 ∷ U8 ∷ U8 ∷ I32 ∷ I32 ∷ I32 ∷ I32 ∷ U16 ∷ I32 ∷ I32 ∷ I32 ∷ I32 ∷ I32 ∷ I32 ∷
-    U16 ∷ U16 ∷ U16 ∷ U16 ∷ U16 ∷ U16 ∷ U16 ∷ U16 ∷ U16 ∷ U16 ∷ U16 ∷ U16 ∷ U16 ∷ U16 ∷ U8 ∷ U16 ∷ U16 ∷
+    Count ∷ Count ∷ Count ∷ Count ∷ Count ∷ Count ∷ Count ∷ Count ∷ Count ∷ Count ∷ Count ∷ Count ∷ Count ∷ Count ∷ U8 ∷ U16 ∷ U16 ∷
     U8 ∷ U32 ∷ U32 ∷ TenMillivolts ∷ []
 
 abbrev pub listedAt : List RowType → ℕ → RowType
@@ -50,6 +50,7 @@ lowest I32 = negsuc 2147483647
 lowest Bool = negsuc 2147483647
 lowest TenMillivolts = negsuc 32767
 lowest Bits = negsuc 2147483647
+lowest Count = pos 0
 lowest NoRow = pos 0
 lowest NoReply = pos 0
 
@@ -64,5 +65,6 @@ highest I32 = pos 2147483647
 highest Bool = pos 2147483647
 highest TenMillivolts = pos 32767
 highest Bits = pos 2147483647
+highest Count = pos 65535
 highest NoRow = negsuc 0
 highest NoReply = negsuc 0

@@ -15,6 +15,8 @@ pub enum RowType {
     TenMillivolts,
     // U32 as a bitfield, never missing.
     Bits,
+    // U16 as a count that stops at its largest value, never missing.
+    Count,
     // The reply has no such row.
     NoRow,
     // There is no such reply.
@@ -82,12 +84,20 @@ fn info(row: u8) -> RowType
         1 | 8 | 9 | 16 | 21..=24 | 26..=31 => RowType::I32,
         // Capacity, Reserved, Cycle Count; Design and Measured Capacity.
         2..=4 | 50 | 51 => RowType::U32,
-        // Cell Balancer Status; Active cell inputs; alarm and reset counts; Time to Full and to Empty.
-        5 | 25 | 32..=45 | 47 | 48 => RowType::U16,
+        // Cell Balancer Status; Active cell inputs.
+        5 | 25 => RowType::U16,
         // Current Errors.
         6 | 7 => RowType::Bits,
-        // State of Charge; FETs and switch; NTC active; SOC confidence; State of Health.
-        10..=15 | 17..=20 | 46 | 49 => RowType::U8,
+        // State of Charge; FETs and switch; NTC active; State of Health.
+        10..=15 | 17..=20 | 49 => RowType::U8,
+        // Alarm counts.
+        32..=44 => RowType::Count,
+        // Reset count.
+        45 => RowType::Count,
+        // SOC confidence.
+        46 => RowType::U8,
+        // Time to Full; Time to Empty.
+        47 | 48 => RowType::U16,
         _ => RowType::NoRow,
     }
 }

@@ -24,7 +24,7 @@ pub enum Row {
     /// In units of ten millivolts; `millivolts` has it in millivolts.
     TenMillivolts(i16),
     Truth(bool),
-    /// No data.
+    /// No data. Alarm counts and the reset count (rows 32 to 45 of reply 03) are never missing.
     Missing,
 }
 

@@ -63,6 +63,12 @@ fn pathfinder_calls() {
     assert_eq!(pathfinder::row(3, 0, 5000), Ok(pathfinder::Row::TenMillivolts(5000)));
     assert_eq!(pathfinder::row(2, 43, 7), Ok(pathfinder::Row::Truth(true)));
     assert_eq!(pathfinder::row(3, 10, 255), Ok(pathfinder::Row::Missing));
+    for count in 32..=45 {
+        assert_eq!(pathfinder::row(3, count, 65535), Ok(pathfinder::Row::Number(65535)));
+    }
+    for (row, word) in [(31, i32::MAX), (46, 255), (47, 65535), (48, 65535)] {
+        assert_eq!(pathfinder::row(3, row, word), Ok(pathfinder::Row::Missing));
+    }
     assert_eq!(pathfinder::millivolts(-5000), -50000);
     assert_eq!(pathfinder::row(5, 0, 0), Err(Refusal::Request));
     assert_eq!(pathfinder::row(1, 3, 0), Err(Refusal::Shape));

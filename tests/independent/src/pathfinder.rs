@@ -100,8 +100,9 @@ fn word(bytes: &[u8]) -> i32 {
     (if size < 1 << 31 { size } else { size - (1 << 32) }) as i32
 }
 
-/// The types of 000, "Data Type Abbreviations", and two of them with a meaning of their own: a voltage counted in
-/// 10 mV, which is an I16, and a bitfield of errors, which is a U32 and never missing.
+/// The types of 000, "Data Type Abbreviations", and three of them with a meaning of their own: a voltage counted in
+/// 10 mV, which is an I16; a bitfield of errors, which is a U32 and never missing; and a count of events, which is a
+/// U16 that stops at its end and is never missing (02, CR 1).
 #[derive(Clone, Copy, Debug, PartialEq, Eq)]
 enum Type {
     U8,
@@ -113,6 +114,7 @@ enum Type {
     Bool,
     TenMillivolts,
     Errors,
+    Events,
 }
 
 impl Type {
@@ -121,7 +123,7 @@ impl Type {
         match self {
             Type::U8 => (8, false),
             Type::I8 => (8, true),
-            Type::U16 => (16, false),
+            Type::U16 | Type::Events => (16, false),
             Type::I16 | Type::TenMillivolts => (16, true),
             Type::U32 | Type::Errors => (32, false),
             Type::I32 | Type::Bool => (32, true),
@@ -156,7 +158,7 @@ impl Type {
     /// Whether a number of this type means "no data" where such a meaning is known (000, note 2; 01).
     fn is_no_data(self, number: i64) -> bool {
         match self {
-            Type::Bool | Type::Errors => false,
+            Type::Bool | Type::Errors | Type::Events => false,
             _ => number == self.most() || (self.shape().1 && number == self.least()),
         }
     }
@@ -180,8 +182,8 @@ fn rows(reply: u8) -> &'static [Type] {
             TenMillivolts, I32, U32, U32, U32, U16, Errors, Errors, I32, I32, // 0 to 9
             U8, U8, U8, U8, U8, U8, I32, U8, U8, U8, // 10 to 19
             U8, I32, I32, I32, I32, U16, I32, I32, I32, I32, // 20 to 29
-            I32, I32, U16, U16, U16, U16, U16, U16, U16, U16, // 30 to 39
-            U16, U16, U16, U16, U16, U16, U8, U16, U16, U8, // 40 to 49
+            I32, I32, Events, Events, Events, Events, Events, Events, Events, Events, // 30 to 39
+            Events, Events, Events, Events, Events, Events, U8, U16, U16, U8, // 40 to 49
             U32, U32, TenMillivolts, // 50 to 52
         ],
         0x04 => &[I32; 16],
@@ -460,6 +462,24 @@ mod tests {
         assert_eq!(row(0x02, 50, 0), Err(Refusal::Shape));
         assert_eq!(row(0x03, 53, 0), Err(Refusal::Shape));
         assert_eq!(row(0x04, 16, 0), Err(Refusal::Shape));
+    }
+
+    /// 02, CR 1: all alarm counts (32 to 44) and the reset count (45); the time rows (47, 48) keep theirs.
+    #[test]
+    fn counts_are_never_missing() {
+        for place in 32..=45 {
+            for (word, number) in [(0xFFFF, 65_535), (0, 0), (1, 1), (-1, 65_535), (0x1FFFF, 65_535), (0x10000, 0)] {
+                assert_eq!(row(0x03, place, word), Ok(format!("number {number}")), "row {place}");
+            }
+        }
+        for (place, word) in
+            [(31, i32::MAX.into()), (31, i32::MIN.into()), (46, 0xFF), (47, 0xFFFF), (48, 0xFFFF), (48, -1)]
+        {
+            assert_eq!(row(0x03, place, word), Ok("missing".to_string()), "row {place}");
+        }
+        for (place, word) in [(31, 0xFFFF), (46, 0), (46, 1), (47, 0), (47, 1), (48, 0), (48, 1)] {
+            assert_eq!(row(0x03, place, word), Ok(format!("number {word}")), "row {place}");
+        }
     }
 
     #[test]

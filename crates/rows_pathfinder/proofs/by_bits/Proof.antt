@@ -94,11 +94,17 @@ unsigned-requires-4 c κs = search needs
 enum-told-10 : tie.Need-enum-told-10
 enum-told-10 c = search needs
 
-refused-requires : tie.Need-refused-requires
-refused-requires c κs = search needs
+unsigned-requires-5 : tie.Need-unsigned-requires-5
+unsigned-requires-5 c κs = search needs
 
 enum-told-11 : tie.Need-enum-told-11
 enum-told-11 c = search needs
+
+refused-requires : tie.Need-refused-requires
+refused-requires c κs = search needs
+
+enum-told-12 : tie.Need-enum-told-12
+enum-told-12 c = search needs
 
 refused-requires-2 : tie.Need-refused-requires-2
 refused-requires-2 c κs = search needs
@@ -151,11 +157,15 @@ returns-9 c = rw (c .before .enum-told9 .given .1) (c .unsigned4 .ensures)
 
 returns-10 : tie.Need-returns-10
 unfolding byBits
-returns-10 c = rw (c .before .enum-told10 .given .1) (c .refused .ensures)
+returns-10 c = rw (c .before .enum-told10 .given .1) (c .unsigned5 .ensures)
 
 returns-11 : tie.Need-returns-11
 unfolding byBits
-returns-11 c = rw (c .before .enum-told11 .given .1) (c .refused2 .ensures)
+returns-11 c = rw (c .before .enum-told11 .given .1) (c .refused .ensures)
+
+returns-12 : tie.Need-returns-12
+unfolding byBits
+returns-12 c = rw (c .before .enum-told12 .given .1) (c .refused2 .ensures)
 
 pub by-bits-spec : {M : Type 1} → statement M
 by-bits-spec =
@@ -189,8 +199,10 @@ by-bits-spec =
     enum-told-9
     unsigned-requires-4
     enum-told-10
-    refused-requires
+    unsigned-requires-5
     enum-told-11
+    refused-requires
+    enum-told-12
     refused-requires-2
     returns
     returns-2
@@ -202,4 +214,5 @@ by-bits-spec =
     returns-8
     returns-9
     returns-10
-    returns-11)
+    returns-11
+    returns-12)

@@ -7,6 +7,7 @@ use super::{Area, Sample};
 use crate::checks::crc;
 use crate::examples;
 use crate::pathfinder::frame;
+use std::ops::RangeInclusive;
 
 pub const AREA: Area = Area { name: "pf", chosen, start: || Box::new(draft) };
 
@@ -54,6 +55,9 @@ fn read(random: &mut Random) -> Draft {
     };
     let mut opcode = asked;
     let mut data = content(random, size);
+    if random.one_in(8) {
+        data = example(asked).map_or(data, examples::bytes);
+    }
     if random.one_in(5) {
         opcode = random.pick(&FAILURES);
         data.clear();
@@ -85,6 +89,16 @@ fn read(random: &mut Random) -> Draft {
         .byte(asked, random)
         .number(random.room(needed, errors.has(11)), random)
         .hex(&framed(opcode, &data, &errors, random), random)
+}
+
+/// The words of the reply that 000 has as an example.
+fn example(asked: u8) -> Option<&'static [i32]> {
+    match asked {
+        0x01 => Some(&examples::MAKER),
+        0x02 => Some(&examples::SETTINGS),
+        0x03 => Some(&examples::LIVE),
+        _ => None,
+    }
 }
 
 /// Data of a size: words with all kinds of values, or text.
@@ -173,7 +187,24 @@ fn word(random: &mut Random) -> i64 {
 /// Words that tell the types apart: the ends of each, and those that become one of them by their low bits.
 const EDGES: [i32; 12] = [-1, i32::MIN, i32::MAX, 255, 256, 128, 127, 65_535, 32_768, 32_767, -128, -32_768];
 
+/// The rows of reply 03 that count events and never miss (02, CR 1), and the three behind them that may; and the words
+/// that tell them apart.
+const COUNTS: RangeInclusive<i64> = 32..=48;
+const COUNTED: [i64; 3] = [0xFFFF, 0, 1];
+
 fn row(random: &mut Random) -> Draft {
+    let (reply, place, word) = match random.below(12) {
+        0 | 1 => (3, random.within(*COUNTS.start(), *COUNTS.end()), random.pick(&COUNTED)),
+        2 => {
+            let place = random.below(examples::LIVE.len());
+            (3, place as i64, examples::LIVE[place].into())
+        }
+        _ => any_row(random),
+    };
+    Draft::of("pf row").byte(reply, random).number(place, random).number(word, random)
+}
+
+fn any_row(random: &mut Random) -> (u8, i64, i64) {
     let reply = random.pick(&[1, 2, 2, 2, 3, 3, 3, 3, 3, 4, 4, 0, 5, 0x0E, 0xFF]);
     let place = match random.below(10) {
         0 => random.within(0, 255),
@@ -183,7 +214,7 @@ fn row(random: &mut Random) -> Draft {
         _ if reply == 4 => random.within(0, 15),
         _ => random.within(0, 52),
     };
-    Draft::of("pf row").byte(reply, random).number(place, random).number(word(random), random)
+    (reply, place, word(random))
 }
 
 /// A register and a value, right or with the errors 10 and 9.
@@ -289,6 +320,7 @@ fn chosen(sample: &mut Sample) {
     replies(sample);
     refused_replies(sample);
     rows(sample);
+    counts(sample);
     writes(sample);
     searches(sample);
     no_calls(sample);
@@ -465,6 +497,18 @@ fn rows(sample: &mut Sample) {
     }
 }
 
+fn counts(sample: &mut Sample) {
+    sample.show("A count that has stopped at 65,535 is not missing", "pf row 03 44 65535");
+    sample.show("and is narrowed first", "pf row 03 45 131071");
+    sample.show("A time of 65,535 is missing", "pf row 03 47 65535");
+    sample.more("# Rows 32 to 48 with FFFF, 0 and 1");
+    for place in COUNTS {
+        for word in COUNTED {
+            sample.more(format!("pf row 03 {place} {word}"));
+        }
+    }
+}
+
 fn writes(sample: &mut Sample) {
     sample.show("000: the requests, written", "pf write 6 ask 01");
     for line in ["pf write 6 ask 02", "pf write 6 ask 03", "pf write 6 ask 04", "pf write 8192 ask 05"] {
@@ -578,7 +622,10 @@ fn no_calls(sample: &mut Sample) {
 
 #[cfg(test)]
 mod tests {
+    use super::*;
+    use crate::generator::generate;
     use crate::generator::tests::assert_kinds;
+    use std::collections::BTreeSet;
 
     #[test]
     fn the_lines_reach_every_answer() {
@@ -617,5 +664,21 @@ mod tests {
         }
         let expected: Vec<&str> = expected.iter().map(String::as_str).collect();
         assert_kinds("pf", 30_000, &expected);
+    }
+
+    #[test]
+    fn the_lines_reach_every_count_and_the_example() {
+        let mut input = Vec::new();
+        generate(30_000, 2, &[&AREA], &mut input).unwrap();
+        let lines = String::from_utf8_lossy(&input).to_uppercase();
+        let lines: BTreeSet<&str> = lines.lines().collect();
+        for place in COUNTS {
+            for word in COUNTED {
+                let line = format!("PF ROW 03 {place} {word}");
+                assert!(lines.contains(line.as_str()), "{line}");
+            }
+        }
+        let example = hex(&frame(0x03, &examples::bytes(&examples::LIVE)));
+        assert!(lines.iter().any(|line| line.starts_with("PF READ 03 ") && line.ends_with(&example)));
     }
 }
