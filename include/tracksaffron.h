@@ -85,7 +85,7 @@ uint64_t tracksaffron_pf_read(uint8_t asked, const uint8_t *s, size_t len, int32
 #define TRACKSAFFRON_PF_ROW_NUMBER 1
 #define TRACKSAFFRON_PF_ROW_TEN_MILLIVOLTS 2 /* in units of ten millivolts */
 #define TRACKSAFFRON_PF_ROW_TRUTH 3          /* 1 or 0 */
-#define TRACKSAFFRON_PF_ROW_MISSING 4        /* no data; value keeps its contents. Never of a count: 32 to 45 of reply 03 */
+#define TRACKSAFFRON_PF_ROW_MISSING 4        /* no data; value keeps its contents. Never of a count, rows 32 to 45 of reply 03 */
 uint64_t tracksaffron_pf_row(uint8_t reply, uint8_t row, int32_t word, int64_t *value, size_t values);
 
 /* A count of ten millivolts as millivolts. */
