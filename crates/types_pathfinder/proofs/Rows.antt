@@ -61,6 +61,7 @@ module _ (typed : ℕ → RowType) (kind : RowType) where
   one-of [] row t h = absurd h
   one-of (key ∷ keys) row t h = one-or-later key keys row t h
 
+  -- n rows, one after the other
   pub along : (low n row : ℕ) → Typed (from low n) → low ≤ row → row < low + n → kind ≡ typed row
   along low zero row t a b = absurd (omega arith)
   along low (suc n) row t a b =

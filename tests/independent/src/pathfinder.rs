@@ -102,7 +102,7 @@ fn word(bytes: &[u8]) -> i32 {
 
 /// The types of 000, "Data Type Abbreviations", and three of them with a meaning of their own: a voltage counted in
 /// 10 mV, which is an I16; a bitfield of errors, which is a U32 and never missing; and a count of events, which is a
-/// U16 that stops at its end and is never missing (02, CR 1).
+/// U16 that stops at its end and is never missing (02, request 1).
 #[derive(Clone, Copy, Debug, PartialEq, Eq)]
 enum Type {
     U8,
@@ -464,7 +464,7 @@ mod tests {
         assert_eq!(row(0x04, 16, 0), Err(Refusal::Shape));
     }
 
-    /// 02, CR 1: all alarm counts (32 to 44) and the reset count (45); the time rows (47, 48) keep theirs.
+    /// 02, request 1: all alarm counts (32 to 44) and the reset count (45); the time rows (47, 48) keep theirs.
     #[test]
     fn counts_are_never_missing() {
         for place in 32..=45 {

@@ -187,14 +187,14 @@ fn word(random: &mut Random) -> i64 {
 /// Words that tell the types apart: the ends of each, and those that become one of them by their low bits.
 const EDGES: [i32; 12] = [-1, i32::MIN, i32::MAX, 255, 256, 128, 127, 65_535, 32_768, 32_767, -128, -32_768];
 
-/// The rows of reply 03 that count events and never miss (02, CR 1), and the three behind them that may; and the words
-/// that tell them apart.
-const COUNTS: RangeInclusive<i64> = 32..=48;
+/// The rows of reply 03 that count events and never miss (02, request 1), and the three behind them, which may: the
+/// confidence and the times; and the words that tell them apart.
+const COUNTS_TO_TIMES: RangeInclusive<i64> = 32..=48;
 const COUNTED: [i64; 3] = [0xFFFF, 0, 1];
 
 fn row(random: &mut Random) -> Draft {
     let (reply, place, word) = match random.below(12) {
-        0 | 1 => (3, random.within(*COUNTS.start(), *COUNTS.end()), random.pick(&COUNTED)),
+        0 | 1 => (3, random.within(*COUNTS_TO_TIMES.start(), *COUNTS_TO_TIMES.end()), random.pick(&COUNTED)),
         2 => {
             let place = random.below(examples::LIVE.len());
             (3, place as i64, examples::LIVE[place].into())
@@ -502,7 +502,7 @@ fn counts(sample: &mut Sample) {
     sample.show("and is narrowed first", "pf row 03 45 131071");
     sample.show("A time of 65,535 is missing", "pf row 03 47 65535");
     sample.more("# Rows 32 to 48 with FFFF, 0 and 1");
-    for place in COUNTS {
+    for place in COUNTS_TO_TIMES {
         for word in COUNTED {
             sample.more(format!("pf row 03 {place} {word}"));
         }
@@ -672,7 +672,7 @@ mod tests {
         generate(30_000, 2, &[&AREA], &mut input).unwrap();
         let lines = String::from_utf8_lossy(&input).to_uppercase();
         let lines: BTreeSet<&str> = lines.lines().collect();
-        for place in COUNTS {
+        for place in COUNTS_TO_TIMES {
             for word in COUNTED {
                 let line = format!("PF ROW 03 {place} {word}");
                 assert!(lines.contains(line.as_str()), "{line}");
