@@ -5,10 +5,9 @@ use mathlib.Core.Bool.{true, false}
 use Prim.Native.Nat.{ℕ, _<_, _≤_}
 use native.Mathlib.Omega.{arith}
 use borrow.Author.Tests.{le-leb, lt-leb, ne-eqb}
-use lib.Dec.{ltb}
 use lib.IntN.{ℤ}
 use Rattle.refusals.specs.Refused.{request, shape, range, register}
-use Rattle.registers_pathfinder.specs.Registers.{count, inRange}
+use Rattle.registers_pathfinder.specs.Registers.{isRegister, inRange}
 use Rattle.requests_pathfinder.specs.declared.Request.the-variants.{Ask, Write}
 use Rattle.requests_pathfinder.specs.Requests.{faultOf}
 
@@ -30,11 +29,11 @@ module _ (op : ℕ) where
   ask-high g d = simp (le-leb 1 op (omega arith), lt-leb op 5 g, ne-eqb op 14 d)
 
 module _ (r : ℕ) (v : ℤ) where
-  pub no-register : ltb r count ≡ false → register ≡ faultOf (Write r v)
+  pub no-register : isRegister r ≡ false → register ≡ faultOf (Write r v)
   unfolding faultOf
   no-register h = simp h
 
-  module _ (known : ltb r count ≡ true) where
+  module _ (known : isRegister r ≡ true) where
     pub no-value : inRange r v ≡ false → range ≡ faultOf (Write r v)
     unfolding faultOf
     no-value h = simp (known, h)

@@ -5,14 +5,14 @@ use mathlib.Core.Bool.{Bool, _&&_}
 use mathlib.Core.List.{List, [], _∷_}
 use lib.IntN.{ℤ}
 use lib.ListN.{length}
-use lib.Dec.{ltb, leb, eqb}
+use lib.Dec.{leb, eqb}
 use Rattle.laws.specs.Choice.{pick}
 use Rattle.refusals.specs.declared.Written.{Written}
 use Rattle.refusals.specs.Refused.{request, shape, range, register}
 use Rattle.refusals.specs.Writing.{writtenAs}
 use Rattle.words_pathfinder.specs.Words.{bytesOfWord}
 use Rattle.frames_written_pathfinder.specs.Writing.{frameBytes}
-use Rattle.registers_pathfinder.specs.Registers.{count, inRange}
+use Rattle.registers_pathfinder.specs.Registers.{isRegister, inRange}
 use Rattle.requests_pathfinder.specs.declared.Request.{Request}
 use Rattle.requests_pathfinder.specs.declared.Request.the-variants.{Ask, Write}
 
@@ -40,7 +40,7 @@ frameFor q = frameBytes (opcodeOf q) (loadOf q)
 -- 10, 0E asked for without its values 8, a value outside its range 9
 unfoldable pub faultOf : Request → ℕ
 faultOf (Ask op) = pick (asks op) 0 (pick (eqb op 0x0E) shape request)
-faultOf (Write r v) = pick (ltb r count) (pick (inRange r v) 0 range) register
+faultOf (Write r v) = pick (isRegister r) (pick (inRange r v) 0 range) register
 
 -- what writing it answers, with so many bytes of room
 abbrev pub sentAs : Request → ℕ → Written

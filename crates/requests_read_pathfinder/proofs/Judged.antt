@@ -5,12 +5,11 @@ use mathlib.Core.Bool.{true, false}
 use mathlib.Core.List.{List}
 use Prim.Native.Nat.{ℕ}
 use borrow.Author.Tests.{eq-eqb, ne-eqb}
-use lib.Dec.{ltb}
 use lib.IntN.{ℤ}
 use lib.ListN.{length, getD}
 use Rattle.refusals.specs.declared.Refusal.{Refusal}
 use Rattle.refusals.specs.Refused.{refusedWith, request, shape, range, register}
-use Rattle.registers_pathfinder.specs.Registers.{count, inRange}
+use Rattle.registers_pathfinder.specs.Registers.{isRegister, inRange}
 use Rattle.words_pathfinder.specs.Words.{wordOf}
 use Rattle.records_pathfinder.specs.Replies.{payloadOf}
 use Rattle.frames_pathfinder.specs.declared.Frame.the-variants.{Whole, Refused as NoFrame}
@@ -28,12 +27,12 @@ module _ (load : List ℕ) where
   set-misshapen h = simp (ne-eqb _ _ h)
 
   module _ (five : length load ≡ 5) where
-    pub set-no-register : ltb (getD load 0 0) count ≡ false → Refused (refusedWith register) ≡ parsedSet load
+    pub set-no-register : isRegister (getD load 0 0) ≡ false → Refused (refusedWith register) ≡ parsedSet load
     unfolding parsedSet
     set-no-register h = simp (eq-eqb _ _ five, h)
 
     -- v is the value, as the reader holds it
-    module _ (known : ltb (getD load 0 0) count ≡ true) (v : ℤ) (e : v ≡ wordOf (getD load 1 0) (getD load 2 0) (getD load 3 0) (getD load 4 0)) where
+    module _ (known : isRegister (getD load 0 0) ≡ true) (v : ℤ) (e : v ≡ wordOf (getD load 1 0) (getD load 2 0) (getD load 3 0) (getD load 4 0)) where
       pub set-no-value : inRange (getD load 0 0) v ≡ false → Refused (refusedWith range) ≡ parsedSet load
       unfolding parsedSet
       set-no-value h = rw (eq-eqb _ _ five, known, ← e, h)

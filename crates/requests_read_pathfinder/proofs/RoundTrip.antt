@@ -6,7 +6,7 @@ use mathlib.Core.List.{List, [], _∷_}
 use Prim.Native.Nat.{ℕ, zero, suc, _+_, _-_, _<_, _≤_, _^_}
 use native.Mathlib.Omega.{arith}
 use borrow.Author.Tests.{leb-true, eqb-true}
-use lib.Dec.{ltb, leb, eqb}
+use lib.Dec.{leb, eqb}
 use lib.ListN.{length, getD, take, drop}
 use lib.Signed.{mag}
 use Rattle.laws.specs.Choice.{pick}
@@ -23,7 +23,7 @@ use Rattle.frames_pathfinder.proofs.Ladder.{whole-parts}
 use Rattle.frames_written_pathfinder.specs.Writing.{frameBytes}
 use Rattle.frames_written_pathfinder.proofs.ReadBack.{frame-reads-back, frame-writes-back, payload-back}
 use Rattle.frames_written_pathfinder.proofs.Writers.{frame-length}
-use Rattle.registers_pathfinder.specs.Registers.{count, inRange}
+use Rattle.registers_pathfinder.specs.Registers.{isRegister, inRange}
 use Rattle.words_pathfinder.specs.Words.{wordOf}
 use Rattle.records_pathfinder.specs.Replies.{payloadOf}
 use Rattle.requests_pathfinder.specs.declared.Request.{Request}
@@ -56,7 +56,7 @@ parsed-back (Ask op) t e =
     let high : op ≤ 5 = leb-true op 5 (b .1) in
     sym (parsed-ask op [] (λ h. omega arith) (a .0) refl)
 parsed-back (Write r v) t e =
-    let a = right (ltb r count) (pick (inRange r v) 0 range) register (λ h. omega arith) e in
+    let a = right (isRegister r) (pick (inRange r v) 0 range) register (λ h. omega arith) e in
     let b = right (inRange r v) 0 range (λ h. omega arith) (a .1) in
     sym (set-read (setLoad r v) refl (a .0) v (sym (word-back v t)) (b .0) ∙ parsed-set 14 (setLoad r v) refl)
 
@@ -98,7 +98,7 @@ set-was load q byte h =
     let v = wordOf (getD load 1 0) (getD load 2 0) (getD load 3 0) (getD load 4 0) in
     let no = not-refused q in
     let a = into (eqb (length load) 5) _ _ _ (no _) h in
-    let b = into (ltb r count) _ _ _ (no _) (a .1) in
+    let b = into (isRegister r) _ _ _ (no _) (a .1) in
     let d = into (inRange r v) _ _ _ (no _) (b .1) in
     let e : q ≡ Write r v = cc (d .1) in
     let back = bytes-back (getD load 1 0) (getD load 2 0) (getD load 3 0) (getD load 4 0) (byte 1) (byte 2) (byte 3) (byte 4) in

@@ -3,13 +3,13 @@
 use Prim.Native.Nat.{ℕ}
 use mathlib.Core.List.{List}
 use lib.ListN.{length, getD}
-use lib.Dec.{ltb, eqb}
+use lib.Dec.{eqb}
 use Rattle.laws.specs.Choice.{pick}
 use Rattle.refusals.specs.Refused.{refusedWith, request, shape, range, register}
 use Rattle.frames_pathfinder.specs.declared.Frame.{Frame}
 use Rattle.frames_pathfinder.specs.declared.Frame.the-variants.{Whole, Refused as NoFrame}
 use Rattle.frames_pathfinder.specs.Reading.{frameOf}
-use Rattle.registers_pathfinder.specs.Registers.{count, inRange}
+use Rattle.registers_pathfinder.specs.Registers.{isRegister, inRange}
 use Rattle.words_pathfinder.specs.Words.{wordOf}
 use Rattle.records_pathfinder.specs.Replies.{payloadOf}
 use Rattle.requests_pathfinder.specs.declared.Request.the-variants.{Ask, Write}
@@ -21,7 +21,7 @@ use Rattle.requests_read_pathfinder.specs.declared.Parsed.the-variants.{
 unfoldable pub parsedSet : List ℕ → Parsed
 parsedSet load =
     pick (eqb (length load) 5)
-    (pick (ltb (getD load 0 0) count)
+    (pick (isRegister (getD load 0 0))
     (pick (inRange (getD load 0 0) (wordOf (getD load 1 0) (getD load 2 0) (getD load 3 0) (getD load 4 0)))
     (Is (Write (getD load 0 0) (wordOf (getD load 1 0) (getD load 2 0) (getD load 3 0) (getD load 4 0))))
     (Refused (refusedWith range)))

@@ -9,7 +9,7 @@ use lib.IntN.{ℤ, pos, negsuc}
 use Rattle.signs.specs.Signed.{bitsOf}
 use Rattle.types_pathfinder.specs.Types.{typeAt, infos}
 use Rattle.types_pathfinder.proofs.Counts.{counts, times}
-use Rattle.types_pathfinder.proofs.Rows.{from}
+use Rattle.laws.proofs.Tables.{from}
 use Rattle.rows_pathfinder.specs.declared.Row.{Row}
 use Rattle.rows_pathfinder.specs.declared.Row.the-variants.{Number, TenMillivolts, Truth, Missing, Refused}
 use Rattle.rows_pathfinder.specs.Narrowing.{byBits, rowOf}

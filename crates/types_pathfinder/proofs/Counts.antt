@@ -5,7 +5,7 @@ use Prim.Native.Nat.{ℕ, _≤_}
 use native.Mathlib.Omega.{arith}
 use Rattle.types_pathfinder.specs.declared.RowType.the-variants.{U16, Count}
 use Rattle.types_pathfinder.specs.Types.{infos, typeAt}
-use Rattle.types_pathfinder.proofs.Rows.{along}
+use Rattle.laws.proofs.Tables.{along}
 
 pub counts : (row : ℕ) → 32 ≤ row → row ≤ 45 → typeAt 0x03 row ≡ Count
 unfolding typeAt infos

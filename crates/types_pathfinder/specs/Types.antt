@@ -3,18 +3,65 @@
 use Prim.Native.Nat.{ℕ}
 use mathlib.Core.List.{List, [], _∷_}
 use lib.Dec.{ltb, eqb}
-use lib.IntN.{ℤ, pos, negsuc}
 use lib.ListN.{length, getD}
 use Rattle.laws.specs.Choice.{pick}
 use Rattle.types_pathfinder.specs.declared.RowType.{RowType}
 use Rattle.types_pathfinder.specs.declared.RowType.the-variants.{U8, I8, U16, I16, U32, I32, Bool, TenMillivolts, Bits, Count, NoRow, NoReply}
 
--- reply 02
+-- reply 02, setting by setting
 unfoldable pub settings : List RowType
 settings =
-    I16 ∷ U8 ∷ U8 ∷ I8 ∷ I8 ∷ U8 ∷ I8 ∷ I8 ∷ U8 ∷ I8 ∷ I8 ∷ U8 ∷ I8 ∷ I8 ∷ U8 ∷ U8 ∷ U8 ∷ U16 ∷ U8 ∷
-    U8 ∷ U16 ∷ I32 ∷ U8 ∷ I32 ∷ U8 ∷ U8 ∷ U32 ∷ U8 ∷ U8 ∷ U8 ∷ U8 ∷ I32 ∷ I32 ∷ U8 ∷ I32 ∷ U8 ∷ I32 ∷
-    U8 ∷ I16 ∷ U8 ∷ I16 ∷ U8 ∷ U32 ∷ Bool ∷ Bool ∷ Bool ∷ Bool ∷ U32 ∷ U8 ∷ U32 ∷ []
+    I16 ∷  -- 0 Balancer Start Voltage
+    U8 ∷  -- 1 Delta to Balance
+    U8 ∷  -- 2 Max Cells to Balance
+    I8 ∷  -- 3 Charge Overtemp Threshold
+    I8 ∷  -- 4 Charge Overtemp Recovery
+    U8 ∷  -- 5 Charge Overtemp Delay
+    I8 ∷  -- 6 Charge Undertemp Threshold
+    I8 ∷  -- 7 Charge Undertemp Recovery
+    U8 ∷  -- 8 Charge Undertemp Delay
+    I8 ∷  -- 9 Discharge Overtemp Threshold
+    I8 ∷  -- 10 Discharge Overtemp Recovery
+    U8 ∷  -- 11 Discharge Overtemp Delay
+    I8 ∷  -- 12 Discharge Undertemp Threshold
+    I8 ∷  -- 13 Discharge Undertemp Recovery
+    U8 ∷  -- 14 Discharge Undertemp Delay
+    U8 ∷  -- 15 Cell Overvoltage Threshold
+    U8 ∷  -- 16 Cell Overvoltage Recovery Hysteresis
+    U16 ∷  -- 17 Cell Overvoltage Delay
+    U8 ∷  -- 18 Cell Undervoltage Threshold
+    U8 ∷  -- 19 Cell Undervoltage Recovery Hysteresis
+    U16 ∷  -- 20 Cell Undervoltage Delay
+    I32 ∷  -- 21 Charge Overcurrent Threshold
+    U8 ∷  -- 22 Charge Overcurrent Delay
+    I32 ∷  -- 23 Discharge Overcurrent Threshold
+    U8 ∷  -- 24 Discharge Overcurrent Delay
+    U8 ∷  -- 25 Fault Recovery Time (shared)
+    U32 ∷  -- 26 L2 Discharge Overcurrent Threshold
+    U8 ∷  -- 27 L2 Discharge Overcurrent Delay
+    U8 ∷  -- 28 L2 FET Overtemp Threshold
+    U8 ∷  -- 29 L2 FET Overtemp Recovery
+    U8 ∷  -- 30 L2 FET Overtemp Delay
+    I32 ∷  -- 31 L3 Short Circuit Threshold
+    I32 ∷  -- 32 L3 Short Circuit Delay
+    U8 ∷  -- 33 L3 Short Circuit Recovery
+    I32 ∷  -- 34 PF Charge Overcurrent
+    U8 ∷  -- 35 PF Charge Overcurrent Delay
+    I32 ∷  -- 36 PF Discharge Overcurrent
+    U8 ∷  -- 37 PF Discharge Overcurrent Delay
+    I16 ∷  -- 38 PF Cell Overvoltage Threshold
+    U8 ∷  -- 39 PF Cell Overvoltage Delay
+    I16 ∷  -- 40 PF Cell Undervoltage Threshold
+    U8 ∷  -- 41 PF Cell Undervoltage Delay
+    U32 ∷  -- 42 Design Capacity
+    Bool ∷  -- 43 NTC1 Active
+    Bool ∷  -- 44 NTC2 Active
+    Bool ∷  -- 45 NTC3 Active
+    Bool ∷  -- 46 NTC4 Active
+    U32 ∷  -- 47 Predischarge Timeout
+    U8 ∷  -- 48 Predischarge Target Percent
+    U32 ∷  -- 49 Predischarge Retry Time
+    []
 
 -- reply 03; the alarm counts and the reset count have a type of their own (02, request 1)
 unfoldable pub infos : List RowType
@@ -36,35 +83,3 @@ typeAt reply row =
     pick (eqb reply 0x01) (wordsAt 3 row)
     (pick (eqb reply 0x02) (listedAt settings row)
     (pick (eqb reply 0x03) (listedAt infos row) (pick (eqb reply 0x04) (wordsAt 16 row) NoReply)))
-
--- ---- the words that are values of a type
-
--- the smallest; a word has 32 bits, so that it is always one of a type that has as many, or of a bool
-abbrev pub lowest : RowType → ℤ
-lowest U8 = pos 0
-lowest I8 = negsuc 127
-lowest U16 = pos 0
-lowest I16 = negsuc 32767
-lowest U32 = negsuc 2147483647
-lowest I32 = negsuc 2147483647
-lowest Bool = negsuc 2147483647
-lowest TenMillivolts = negsuc 32767
-lowest Bits = negsuc 2147483647
-lowest Count = pos 0
-lowest NoRow = pos 0
-lowest NoReply = pos 0
-
--- the largest; below the smallest where there is no row
-abbrev pub highest : RowType → ℤ
-highest U8 = pos 255
-highest I8 = pos 127
-highest U16 = pos 65535
-highest I16 = pos 32767
-highest U32 = pos 2147483647
-highest I32 = pos 2147483647
-highest Bool = pos 2147483647
-highest TenMillivolts = pos 32767
-highest Bits = pos 2147483647
-highest Count = pos 65535
-highest NoRow = negsuc 0
-highest NoReply = negsuc 0

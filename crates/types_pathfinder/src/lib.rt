@@ -51,24 +51,56 @@ fn setting(row: u8) -> RowType
     ensures { λ r. ⌜ r ≡ listedAt settings row ⌝ }
 {
     match row {
-        // Balancer Start Voltage; PF Cell Overvoltage and Undervoltage.
-        0 | 38 | 40 => RowType::I16,
-        // Balancing; delays; cell voltages; L2 FET Overtemp.
-        1 | 2 | 5 | 8 | 11 | 14..=16 | 18 | 19 | 22 | 24 | 25 | 27..=30 => RowType::U8,
-        // Short Circuit Recovery; PF delays; Predischarge Target Percent.
-        33 | 35 | 37 | 39 | 41 | 48 => RowType::U8,
-        // Charge and Discharge, Overtemp and Undertemp.
-        3 | 4 | 6 | 7 | 9 | 10 | 12 | 13 => RowType::I8,
-        // Cell Overvoltage and Undervoltage Delay.
-        17 | 20 => RowType::U16,
-        // Overcurrent; Short Circuit; PF Overcurrent.
-        21 | 23 | 31 | 32 | 34 | 36 => RowType::I32,
-        // L2 Discharge Overcurrent; Design Capacity; Predischarge Timeout.
-        26 | 42 | 47 => RowType::U32,
-        // NTC1 to NTC4 Active.
-        43..=46 => RowType::Bool,
-        // Predischarge Retry Time.
-        49 => RowType::U32,
+        0 => RowType::I16, // Balancer Start Voltage
+        1 => RowType::U8, // Delta to Balance
+        2 => RowType::U8, // Max Cells to Balance
+        3 => RowType::I8, // Charge Overtemp Threshold
+        4 => RowType::I8, // Charge Overtemp Recovery
+        5 => RowType::U8, // Charge Overtemp Delay
+        6 => RowType::I8, // Charge Undertemp Threshold
+        7 => RowType::I8, // Charge Undertemp Recovery
+        8 => RowType::U8, // Charge Undertemp Delay
+        9 => RowType::I8, // Discharge Overtemp Threshold
+        10 => RowType::I8, // Discharge Overtemp Recovery
+        11 => RowType::U8, // Discharge Overtemp Delay
+        12 => RowType::I8, // Discharge Undertemp Threshold
+        13 => RowType::I8, // Discharge Undertemp Recovery
+        14 => RowType::U8, // Discharge Undertemp Delay
+        15 => RowType::U8, // Cell Overvoltage Threshold
+        16 => RowType::U8, // Cell Overvoltage Recovery Hysteresis
+        17 => RowType::U16, // Cell Overvoltage Delay
+        18 => RowType::U8, // Cell Undervoltage Threshold
+        19 => RowType::U8, // Cell Undervoltage Recovery Hysteresis
+        20 => RowType::U16, // Cell Undervoltage Delay
+        21 => RowType::I32, // Charge Overcurrent Threshold
+        22 => RowType::U8, // Charge Overcurrent Delay
+        23 => RowType::I32, // Discharge Overcurrent Threshold
+        24 => RowType::U8, // Discharge Overcurrent Delay
+        25 => RowType::U8, // Fault Recovery Time (shared)
+        26 => RowType::U32, // L2 Discharge Overcurrent Threshold
+        27 => RowType::U8, // L2 Discharge Overcurrent Delay
+        28 => RowType::U8, // L2 FET Overtemp Threshold
+        29 => RowType::U8, // L2 FET Overtemp Recovery
+        30 => RowType::U8, // L2 FET Overtemp Delay
+        31 => RowType::I32, // L3 Short Circuit Threshold
+        32 => RowType::I32, // L3 Short Circuit Delay
+        33 => RowType::U8, // L3 Short Circuit Recovery
+        34 => RowType::I32, // PF Charge Overcurrent
+        35 => RowType::U8, // PF Charge Overcurrent Delay
+        36 => RowType::I32, // PF Discharge Overcurrent
+        37 => RowType::U8, // PF Discharge Overcurrent Delay
+        38 => RowType::I16, // PF Cell Overvoltage Threshold
+        39 => RowType::U8, // PF Cell Overvoltage Delay
+        40 => RowType::I16, // PF Cell Undervoltage Threshold
+        41 => RowType::U8, // PF Cell Undervoltage Delay
+        42 => RowType::U32, // Design Capacity
+        43 => RowType::Bool, // NTC1 Active
+        44 => RowType::Bool, // NTC2 Active
+        45 => RowType::Bool, // NTC3 Active
+        46 => RowType::Bool, // NTC4 Active
+        47 => RowType::U32, // Predischarge Timeout
+        48 => RowType::U8, // Predischarge Target Percent
+        49 => RowType::U32, // Predischarge Retry Time
         _ => RowType::NoRow,
     }
 }

@@ -6,7 +6,7 @@ use Prim.Native.Nat.{ℕ}
 use native.Mathlib.Omega.{arith}
 use lib.ListN.{getD}
 use Rattle.types_pathfinder.specs.Types.{infos, listedAt}
-use Rattle.types_pathfinder.proofs.Rows.{one-of, between}
+use Rattle.laws.proofs.Tables.{one-of, between}
 use Rattle.types_pathfinder.proofs.info.Statement.{statement}
 use Rattle.types_pathfinder.proofs.info.Tie as tie
 

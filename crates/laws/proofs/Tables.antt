@@ -1,5 +1,5 @@
--- The rows that lead into an arm of a table: those that the arm names one by one, or a range without those that any arm names. That they all
--- have the arm's type is one computed test.
+-- A table that the code has as a `match`: the rows that lead into an arm, those that it names one by one, or a range without those that any arm
+-- names. That they all have what the arm gives is one computed test.
 -- Assumes nothing.
 use mathlib.Core.Path.{_≡_, refl, sym, ap, _∙_}
 use mathlib.Core.Bool.{Bool, true, false, _||_}
@@ -11,8 +11,7 @@ use native.Mathlib.Omega.{arith}
 use lib.ListN.{getD, drop}
 use mir.Val.{hasKey}
 use types.Run.{OneOf, hit}
 use Rattle.laws.specs.Choice.{pick}
-use Rattle.types_pathfinder.specs.declared.RowType.{RowType}
 
 -- ---- rows that no arm names
 
@@ -38,20 +37,20 @@ not-named so-far (keys ∷ more) row h =
     let g = not-named (so-far × (OneOf keys row → ⊥)) more row h in
     (g .0 .0, rw (not-among keys row (g .0 .1), g .1) refl)
 
--- ---- the arm's type
+-- ---- what the arm gives
 
 -- so many rows, from one on
 abbrev pub from : ℕ → ℕ → List ℕ
 from low zero = []
 from low (suc n) = low ∷ from (low + 1) n
 
-module _ (typed : ℕ → RowType) (kind : RowType) where
-  -- the test: these rows have the type
+module _ {A : Type 0} (typed : ℕ → A) (kind : A) where
+  -- the test: these rows have it
   abbrev pub Typed : List ℕ → Type 0
   Typed rows = map typed rows ≡ map (λ row. kind) rows
 
   first : (key : ℕ) (keys : List ℕ) (row : ℕ) → Typed (key ∷ keys) → row ≡ key → kind ≡ typed row
-  first key keys row t e = sym (ap typed e ∙ ap (λ (l : List RowType). getD l 0 kind) t)
+  first key keys row t e = sym (ap typed e ∙ ap (λ (l : List A). getD l 0 kind) t)
 
   one-or-later : (key : ℕ) (keys : List ℕ) (row : ℕ) → Typed (key ∷ keys) → OneOf (key ∷ keys) row → kind ≡ typed row
   one-or-later key [] row t h = first key [] row t h
@@ -68,9 +67,9 @@ module _ (typed : ℕ → RowType) (kind : RowType) where
       ⊎-elim (λ (e : low ≡ row). first low (from (low + 1) n) row t (sym e))
       (λ (l : low < row). along (low + 1) n row (ap (drop 1) t) (omega arith) (omega arith)) (eq-or-lt-of-le a)
 
-module _ (typed : ℕ → RowType) (kind : RowType) (lists : List (List ℕ)) where
-  -- what an arm names counts as of the type
-  abbrev pub apart : ℕ → RowType
+module _ {A : Type 0} (typed : ℕ → A) (kind : A) (lists : List (List ℕ)) where
+  -- what an arm names counts as that
+  abbrev pub apart : ℕ → A
   apart row = pick (named lists row) kind (typed row)
 
   pub between : (low n row : ℕ) → Typed apart kind (from low n) → NoneOf Unit lists row → low ≤ row → row < low + n → kind ≡ typed row
