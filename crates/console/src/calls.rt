@@ -200,8 +200,8 @@ pub fn with_job(call: Call, job: &[u8]) -> Call {
     if k <= 20 {
         return call;
     }
-    if 260 < job.len() {
-        if job[260] < 255 {
+    if 400 < job.len() {
+        if job[400] < 255 {
             return call;
         }
     }

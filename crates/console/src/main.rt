@@ -34,7 +34,7 @@ fn main() {
     let mut bytes = [0u8; 8192];
     let mut string = [0u8; 8192];
     let mut row = [0i32; 16384];
-    let mut job = [255u8; 262];
+    let mut job = [255u8; 402];
     let mut out = [0u8; 65536];
     talk(
         &mut input,

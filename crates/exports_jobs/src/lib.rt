@@ -1,4 +1,4 @@
-// A restore's job for other languages (`rt staticlib exports_jobs`): it lives in bytes that the caller lends, 262 of them, and each call is one of
+// A restore's job for other languages (`rt staticlib exports_jobs`): it lives in bytes that the caller lends, 402 of them, and each call is one of
 // `restore_jobs` on the job in them (`restore_bytes`, `restore_stored`): a restore opened, and what is left. `specs/Opened.antt` says what open answers.
 use exports_answers::coded;
 use restore_bytes::is_job;
@@ -17,7 +17,7 @@ ghost use Rattle.exports_jobs.specs.Opened.{openedCode, openedJob};
 // What is answered where the bytes hold no job.
 const NO_JOB: u64 = refusals::SHAPE as u64;
 
-// Opens a restore of a pack that holds the 50 words `present`, towards the 15 values `wanted`, in the job's bytes.
+// Opens a restore of a pack that holds the 50 words `present`, towards the 50 values `wanted`, in the job's bytes.
 #[no_mangle]
 pub extern "C" fn tracksaffron_restore_open(present: &[i32], wanted: &[i32], job: &mut [u8]) -> u64
     ensures answer { λ r. ⌜ r ≡ pick (sized (now (job .entry))) (openedCode (openOf (now (present .entry)) (now (wanted .entry)))) shape ⌝ }

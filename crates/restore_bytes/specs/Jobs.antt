@@ -1,4 +1,4 @@
--- A restore's job in 262 bytes: the 50 words of its picture and the 15 wanted values, four bytes each with the low one first, then a byte for the
+-- A restore's job in 402 bytes: the 50 words of its picture and the 50 wanted values, four bytes each with the low one first, then a byte for the
 -- phase (0 ready, 1 waiting, 2 stopped) and one for the register waited for, 0 in the other phases (docs/DECISIONS.md, C and Rust).
 -- Assumes nothing.
 use Prim.Native.Nat.{ℕ}
@@ -16,7 +16,7 @@ use Rattle.restore_jobs.specs.Jobs.{noJob}
 
 -- so many bytes
 abbrev pub sized : List ℕ → Bool
-sized b = eqb (length b) 262
+sized b = eqb (length b) 402
 
 -- ---- read
 
@@ -26,7 +26,7 @@ phaseIn p r = pick (eqb p 0) Ready (pick (eqb p 1) (Waiting r) Stopped)
 -- the job in so many bytes
 abbrev pub jobIn : List ℕ → Job
 jobIn b =
-    record { present = words 50 (take 200 b); wanted = words 15 (take 60 (drop 200 b)); phase = phaseIn (getD b 260 0) (getD b 261 0) }
+    record { present = words 50 (take 200 b); wanted = words 50 (take 200 (drop 200 b)); phase = phaseIn (getD b 400 0) (getD b 401 0) }
 
 -- the job in the bytes; where they are not so many, the one that comes with a refusal
 unfoldable pub jobOf : List ℕ → Job
@@ -49,4 +49,4 @@ stands j = phaseStands (j .phase) (writes slots (j .present) (j .wanted))
 
 -- so many bytes, one of the three phases, and a job that a restore can come to
 unfoldable pub isJob : List ℕ → Bool
-isJob b = sized b && (leb (getD b 260 0) 2 && stands (jobOf b))
+isJob b = sized b && (leb (getD b 400 0) 2 && stands (jobOf b))

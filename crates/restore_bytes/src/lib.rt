@@ -1,4 +1,4 @@
-// A restore's job in 262 bytes, for who keeps it where no struct can stand (docs/DECISIONS.md, C and Rust): judged and read.
+// A restore's job in 402 bytes, for who keeps it where no struct can stand (docs/DECISIONS.md, C and Rust): judged and read.
 // `specs/Jobs.antt` says how a job stands in its bytes.
 use lists_pathfinder::read_words;
 use restore_jobs::Job;
@@ -9,7 +9,7 @@ ghost use mathlib.Core.Path.{_≡_};
 ghost use Rattle.restore_bytes.specs.Jobs.{phaseIn, stands, isJob, jobOf};
 
 // How many bytes a job has.
-pub const JOB: usize = 262;
+pub const JOB: usize = 402;
 
 // Whether the bytes hold a job: so many of them, one of the three phases, and a job that a restore can come to.
 pub fn is_job(b: &[u8]) -> bool
@@ -18,8 +18,12 @@ pub fn is_job(b: &[u8]) -> bool
     if b.len() != JOB {
         return false;
     }
-    if 2 < b[260] {
+    if 2 < b[400] {
         return false;
+    }
+    // No other phase waits: the words are not looked at.
+    if b[400] != 1 {
+        return true;
     }
     can_stand(job_of(b))
 }
@@ -29,7 +33,7 @@ pub fn job_of(b: &[u8]) -> Job
     ensures { λ r. ⌜ r ≡ jobOf (now (b .entry)) ⌝ }
 {
     let mut present = [0i32; 50];
-    let mut wanted = [0i32; 15];
+    let mut wanted = [0i32; 50];
     if b.len() != JOB {
         return Job {
             present,
@@ -38,11 +42,11 @@ pub fn job_of(b: &[u8]) -> Job
         };
     }
     read_words(&b[0..200], &mut present);
-    read_words(&b[200..260], &mut wanted);
+    read_words(&b[200..400], &mut wanted);
     Job {
         present,
         wanted,
-        phase: phase_of(b[260], b[261]),
+        phase: phase_of(b[400], b[401]),
     }
 }
 

@@ -36,7 +36,7 @@ held m = record { present = m .present; wanted = m .wanted; phase = heldPhase (m
 
 -- the job that comes with a refusal: nothing is wanted, and nothing goes on
 abbrev pub noJob : Job
-noJob = record { present = replicate 50 (pos 0); wanted = replicate 15 (pos 0); phase = Stopped }
+noJob = record { present = replicate 50 (pos 0); wanted = replicate 50 (pos 0); phase = Stopped }
 
 abbrev pub openedAs : O.Opened → Opened
 openedAs (O.opened m) = record { opening = Accepted; job = held m }
@@ -48,4 +48,4 @@ openOf o w = openedAs (O.opening O.pathfinder o w)
 -- ---- left
 
 abbrev pub leftOf : Job → ℕ
-leftOf j = M.left 15 (machine j)
+leftOf j = M.left 50 (machine j)

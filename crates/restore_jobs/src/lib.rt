@@ -19,7 +19,7 @@ pub enum Phase {
 // A restore: its picture of the pack's words, the wanted values, and the phase.
 pub struct Job {
     pub present: [i32; 50],
-    pub wanted: [i32; 15],
+    pub wanted: [i32; 50],
     pub phase: Phase,
 }
 
@@ -34,7 +34,7 @@ pub struct Opened {
     pub job: Job,
 }
 
-// Opens a restore of a pack that holds the 50 words `present`, towards the 15 values `wanted`.
+// Opens a restore of a pack that holds the 50 words `present`, towards the 50 values `wanted`.
 pub fn open(present: &[i32], wanted: &[i32]) -> Opened
     ensures { λ r. ⌜ r ≡ openOf (now (present .entry)) (now (wanted .entry)) ⌝ }
 {
@@ -42,7 +42,7 @@ pub fn open(present: &[i32], wanted: &[i32]) -> Opened
         return not_opened(why);
     }
     let mut words = [0i32; 50];
-    let mut values = [0i32; 15];
+    let mut values = [0i32; 50];
     copy(present, &mut words);
     copy(wanted, &mut values);
     Opened {
@@ -71,7 +71,7 @@ fn not_opened(why: Refusal) -> Opened
         opening: Opening::Refused(why),
         job: Job {
             present: [0i32; 50],
-            wanted: [0i32; 15],
+            wanted: [0i32; 50],
             phase: Phase::Stopped,
         },
     }

@@ -27,7 +27,7 @@ use Rattle.restore_next.specs.declared.Step.the-variants.{Done, Refused 
 use Rattle.restore_next.specs.declared.Stepped.{Stepped}
 use Rattle.restore_next.specs.Next.{isReady, sentOf, stepFor, nextOf, roomFor, roomOf}
 
-settings-apart : apart 15 slots ≡ true
+settings-apart : apart 50 slots ≡ true
 unfolding apart isIn
 settings-apart = refl
 
@@ -83,9 +83,9 @@ module _ (j : Job) (out : List ℕ) where
       one-write h written e = rw e (by-asked (M.write r (at (j .wanted) r)) (asks false (le-ltb (length out) 11 h)))
 
 -- what is written first is a setting
-pub first-below : (p w : List ℤ) (r : ℕ) → firstOf (writes slots p w) ≡ At r → r < 15
+pub first-below : (p w : List ℤ) (r : ℕ) → firstOf (writes slots p w) ≡ At r → r < 50
 first-below p w r = go (writes slots p w) refl
   where
-    go : (ws : List ℕ) → writes slots p w ≡ ws → firstOf ws ≡ At r → r < 15
+    go : (ws : List ℕ) → writes slots p w ≡ ws → firstOf ws ≡ At r → r < 50
     go [] e h = let z : _≡_ {A = ℕ} 0 1 = cc in absurd (omega arith)
-    go (n ∷ rest) e h = let q : n ≡ r = cc in rw (← q) (in-below 15 n slots settings-apart (first-in slots p w n rest e))
+    go (n ∷ rest) e h = let q : n ≡ r = cc in rw (← q) (in-below 50 n slots settings-apart (first-in slots p w n rest e))

@@ -1,4 +1,4 @@
-// The night restore of the Pathfinder's settings 0 to 14 (01, Restore): next, the call that writes to the pack, on a job of `restore_jobs`. It
+// The night restore of the Pathfinder's settings (01, Restore): next, the call that writes to the pack, on a job of `restore_jobs`. It
 // is one step of the small machine of `restore_order`, about which demand 3 is proved; its write goes out as a frame of request 0E.
 use refusals::Refusal;
 use refusals::Written;

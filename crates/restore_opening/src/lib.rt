@@ -1,21 +1,22 @@
-// Whether a restore may open (01, Restore): its tests on the present words and the wanted values, in their order. Each is a definition of
-// `restore_order`; the slots' members are the tables of `restore_rules`.
+// Whether a restore may open (01, Restore; 02, request 2): its tests on the present words and the wanted values, in their order. Each is a definition
+// of `restore_order`; the pairs are those of `restore_rules`.
 use refusals::Refusal;
 use refusals::refuse;
 use registers_pathfinder::fits_type;
 use registers_pathfinder::in_range;
-use restore_rules::LOWERS;
-use restore_rules::UPPERS;
+use restore_rules::Place;
+use restore_rules::place_of;
 ghost use mathlib.Core.Path.{_≡_};
 ghost use mathlib.Core.Bool.{_&&_};
-ghost use Prim.Native.Nat.{_<_, _≤_};
+ghost use Prim.Native.Nat.{_<_};
 ghost use lib.Dec.{eqb};
+ghost use lib.Signed.{ltZ};
 ghost use lib.ListN.{length};
-ghost use Rattle.registers_pathfinder.specs.Registers.{fitsType, inRange};
-ghost use Rattle.restore_order.specs.Slots.{at, sides, slots};
 ghost use Rattle.laws.specs.Every.{every};
+ghost use Rattle.restore_order.specs.Slots.{at, isIn, sides, slots};
 ghost use Rattle.restore_order.specs.Opening.{pathfinder, opening};
-ghost use Rattle.restore_opening.specs.Verdicts.{verdictOf, fits, upright};
+ghost use Rattle.restore_rules.specs.Places.{placeAt};
+ghost use Rattle.restore_opening.specs.Verdicts.{verdictOf, unmoved, writable, fits, upright};
 
 pub enum Verdict {
     Accepted,
@@ -32,17 +33,21 @@ pub fn judge(present: &[i32], wanted: &[i32]) -> Verdict
     Verdict::Refused(refuse(refusals::SHAPE))
 }
 
-// The same of 50 words and 15 values. All tests are made before the first of them refuses: their order is that of the refusals alone.
+// The same of 50 words and 50 values. All tests are made before the first of them refuses: their order is that of the refusals alone.
 fn judge_values(present: &[i32], wanted: &[i32]) -> Verdict
-    requires { ⌜ (length (now present) ≡ 50) × (length (now wanted) ≡ 15) ⌝ }
+    requires { ⌜ (length (now present) ≡ 50) × (length (now wanted) ≡ 50) ⌝ }
     ensures { λ r. ⌜ r ≡ verdictOf (opening pathfinder (now (present .entry)) (now (wanted .entry))) ⌝ }
 {
     let typed = all_fit(present, false);
+    let kept = all_unmoved(present, wanted);
     let ranged = all_fit(wanted, true);
     let wanted_right = are_upright(wanted);
     let present_right = are_upright(present);
     if !typed {
         return Verdict::Refused(refuse(refusals::SHAPE));
+    }
+    if !kept {
+        return Verdict::Refused(refuse(refusals::REGISTER));
     }
     if !ranged {
         return Verdict::Refused(refuse(refusals::RANGE));
@@ -58,23 +63,51 @@ fn judge_values(present: &[i32], wanted: &[i32]) -> Verdict
 
 // ---- the tests
 
-// 50 words and 15 values.
+// 50 words and 50 values.
 fn is_sized(present: &[i32], wanted: &[i32]) -> bool
-    ensures { λ r. ⌜ r ≡ (eqb (length (now (present .entry))) 50 && eqb (length (now (wanted .entry))) 15) ⌝ }
+    ensures { λ r. ⌜ r ≡ (eqb (length (now (present .entry))) 50 && eqb (length (now (wanted .entry))) 50) ⌝ }
 {
     if present.len() != 50 {
         return false;
     }
-    wanted.len() == 15
+    wanted.len() == 50
 }
 
-// The first fifteen values are of their settings' types, and wanted ones in their registers' ranges too.
-fn all_fit(values: &[i32], wanted: bool) -> bool
-    requires { ⌜ 15 ≤ length (now values) ⌝ }
-    ensures { λ r. ⌜ r ≡ every 15 (λ n. fits wanted n (at (now (values .entry)) n)) ⌝ }
+// Whether a setting is written: 47, 48 and 49 are fixed.
+fn is_written(n: u8) -> bool
+    ensures { λ r. ⌜ r ≡ isIn n slots ⌝ }
+{
+    n < 47
+}
+
+// The fixed settings are wanted as they are.
+fn all_unmoved(present: &[i32], wanted: &[i32]) -> bool
+    requires { ⌜ (length (now present) ≡ 50) × (length (now wanted) ≡ 50) ⌝ }
+    ensures { λ r. ⌜ r ≡ every 50 (λ n. unmoved n (at (now (wanted .entry)) n) (at (now (present .entry)) n)) ⌝ }
 {
     let mut n: usize = 0;
-    while n < 15 {
+    while n < 50 {
+        if !is_unmoved(n as u8, wanted[n], present[n]) {
+            return false;
+        }
+        n += 1;
+    }
+    true
+}
+
+fn is_unmoved(n: u8, to: i32, from: i32) -> bool
+    ensures { λ r. ⌜ r ≡ unmoved n to from ⌝ }
+{
+    if is_written(n) { true } else { to == from }
+}
+
+// The values are of their settings' types; wanted ones, unless fixed, are in their registers' ranges too.
+fn all_fit(values: &[i32], wanted: bool) -> bool
+    requires { ⌜ length (now values) ≡ 50 ⌝ }
+    ensures { λ r. ⌜ r ≡ every 50 (λ n. fits wanted n (at (now (values .entry)) n)) ⌝ }
+{
+    let mut n: usize = 0;
+    while n < 50 {
         if !is_fit(n as u8, values[n], wanted) {
             return false;
         }
@@ -94,8 +127,11 @@ fn is_fit(n: u8, value: i32, wanted: bool) -> bool
 }
 
 fn is_writable(n: u8, value: i32) -> bool
-    ensures { λ r. ⌜ r ≡ (inRange n value && fitsType n value) ⌝ }
+    ensures { λ r. ⌜ r ≡ writable n value ⌝ }
 {
+    if !is_written(n) {
+        return true;
+    }
     if in_range(n, value) {
         fits_type(n, value)
     } else {
@@ -105,25 +141,38 @@ fn is_writable(n: u8, value: i32) -> bool
 
 // Each pair has its upper member strictly above its lower one.
 fn are_upright(values: &[i32]) -> bool
-    requires { ⌜ 15 ≤ length (now values) ⌝ }
+    requires { ⌜ length (now values) ≡ 50 ⌝ }
     ensures { λ r. ⌜ r ≡ sides slots (now (values .entry)) ⌝ }
 {
-    let mut k: usize = 0;
-    while k < 11 {
-        if !is_upright(values, UPPERS[k], LOWERS[k]) {
-            return false;
-        }
-        k += 1;
+    if !is_upright(values, 3) {
+        return false;
     }
-    true
+    if !is_upright(values, 6) {
+        return false;
+    }
+    if !is_upright(values, 9) {
+        return false;
+    }
+    if !is_upright(values, 12) {
+        return false;
+    }
+    is_upright(values, 28)
 }
 
-fn is_upright(values: &[i32], upper: u8, lower: u8) -> bool
-    requires { ⌜ (15 ≤ length (now values)) × (upper < 15) × (lower < 15) ⌝ }
-    ensures { λ r. ⌜ r ≡ upright (now (values .entry)) upper lower ⌝ }
+// The pair that has its place at n stands right.
+fn is_upright(values: &[i32], n: u8) -> bool
+    requires { ⌜ (length (now values) ≡ 50) × (n < 47) ⌝ }
+    ensures { λ r. ⌜ r ≡ upright (now (values .entry)) (placeAt n) ⌝ }
 {
-    if upper == lower {
-        return true;
+    match place_of(n) {
+        Place::Pair(upper, lower) => is_above(values, upper, lower),
+        Place::Alone => true,
     }
+}
+
+fn is_above(values: &[i32], upper: u8, lower: u8) -> bool
+    requires { ⌜ (length (now values) ≡ 50) × (upper < 50) × (lower < 50) ⌝ }
+    ensures { λ r. ⌜ r ≡ ltZ (at (now (values .entry)) lower) (at (now (values .entry)) upper) ⌝ }
+{
     values[lower as usize] < values[upper as usize]
 }

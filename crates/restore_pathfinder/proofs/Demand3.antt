@@ -10,9 +10,8 @@ use native.Mathlib.Omega.{arith}
 use lib.IntN.{ℤ}
 use lib.ListN.{length, take, length-map}
 use lib.Seq.{take-all}
-use borrow.Author.Tests.{lt-ltb}
 use Rattle.refusals.specs.Refused.{refusedWith, turn}
-use Rattle.restore_order.specs.Slots.{slots, at, writes, isIn, sides}
+use Rattle.restore_order.specs.Slots.{slots, at, differs, writes, isIn, sides, one, times}
 use Rattle.restore_order.specs.Machine as M
 use Rattle.restore_order.specs.Opening as O
 use Rattle.restore_order.specs.Line as L
@@ -46,20 +45,18 @@ use Rattle.restore_pathfinder.proofs.Shadows.{packOf, pack-obeys, world
 pub accepted-opens : (o w : List ℤ) → openOf o w .opening ≡ Accepted → O.opening O.pathfinder o w ≡ O.opened (M.jobOf o w M.ready)
 unfolding O.opening
 accepted-opens o w e =
-    go (O.shapely O.pathfinder o w) (O.ranged O.pathfinder w) (sides slots w) (sides slots o) e
+    go (O.shapely O.pathfinder o w) (O.unmoved O.pathfinder o w) (O.ranged O.pathfinder w) (sides slots w) (sides slots o) e
   where
-    go : (a b c d : Bool) → openedAs (O.inOrder a b c d (M.jobOf o w M.ready)) .opening ≡ Accepted → O.inOrder a b c d (M.jobOf o w M.ready) ≡ O.opened (M.jobOf o w M.ready)
-    go true true true true h = refl
-    go true true true false h = let z : _≡_ {A = ℕ} 0 1 = cc in absurd (omega arith)
-    go true true false d h = let z : _≡_ {A = ℕ} 0 1 = cc in absurd (omega arith)
-    go true false c d h = let z : _≡_ {A = ℕ} 0 1 = cc in absurd (omega arith)
-    go false b c d h = let z : _≡_ {A = ℕ} 0 1 = cc in absurd (omega arith)
+    go : (a b c d e : Bool) → openedAs (O.inOrder a b c d e (M.jobOf o w M.ready)) .opening ≡ Accepted → O.inOrder a b c d e (M.jobOf o w M.ready) ≡ O.opened (M.jobOf o w M.ready)
+    go true true true true true h = refl
+    go true true true true false h = let z : _≡_ {A = ℕ} 0 1 = cc in absurd (omega arith)
+    go true true true false e h = let z : _≡_ {A = ℕ} 0 1 = cc in absurd (omega arith)
+    go true true false d e h = let z : _≡_ {A = ℕ} 0 1 = cc in absurd (omega arith)
+    go true false c d e h = let z : _≡_ {A = ℕ} 0 1 = cc in absurd (omega arith)
+    go false b c d e h = let z : _≡_ {A = ℕ} 0 1 = cc in absurd (omega arith)
 
 pub opens-accepted : (o w : List ℤ) → Passed O.pathfinder o w → openOf o w .opening ≡ Accepted
 opens-accepted o w p = ap (λ (x : O.Opened). openedAs x .opening) (passes O.pathfinder o w p)
-
-setting : (n : ℕ) → n < 15 → isIn n slots ≡ true
-setting n h = D.settings-0-to-14 n ∙ lt-ltb n 15 h
 
 -- ---- done is done
 
@@ -115,6 +112,20 @@ module _ (device : Device) (q o w : List ℤ) (accepted : openOf o w .opening �
   opens : O.opening O.pathfinder o w ≡ O.opened (M.jobOf o w M.ready)
   opens = accepted-opens o w accepted
 
+  passed-first : Passed O.pathfinder o w
+  passed-first = passed O.pathfinder o w opens
+
+  -- a fixed setting is not written, and holds what is wanted
+  once : (n : ℕ) → n < 50 → (log : List ℕ) → (b : Bool) → isIn n slots ≡ b → (isIn n slots ≡ true → times n log ≡ one (differs o w n))
+      → (isIn n slots ≡ false → times n log ≡ 0)
+      → times n log ≡ one (differs o w n)
+  once n h log true i each none = each i
+  once n h log false out each none = none out ∙ sym (ap one (D.fixed-alike o w (passed-first .fixed) n h out))
+
+  there : (n : ℕ) → n < 50 → (p : List ℤ) → (b : Bool) → isIn n slots ≡ b → (isIn n slots ≡ true → at p n ≡ at w n) → (isIn n slots ≡ false → at p n ≡ at o n) → at p n ≡ at w n
+  there n h p true i written fixed = written i
+  there n h p false out written fixed = fixed out ∙ sym (passed-first .fixed n h out)
+
   job-is : openOf o w .job ≡ held (M.jobOf o w M.ready)
   job-is = ap (λ (x : O.Opened). openedAs x .job) opens
 
@@ -161,9 +172,9 @@ module _ (device : Device) (q o w : List ℤ) (accepted : openOf o w .opening �
         record {
           says-done = λ room. says-done (x .job) (length room) (f .says-done (length room));
           frames = went ∙ ap (map (frameTo w)) (f .all-sent);
-          one-frame-each = λ n b. ap (occurrences (frameTo w n)) went ∙ occurrences-are w n (same .log) ∙ f .one-write-each n (setting n b);
-          no-other-frame = ap length went ∙ length-map (same .log) (frameTo w) ∙ ap length (f .all-sent) ∙ D.left-is-writes o w;
-          reached = λ n b. f .reached n (setting n b);
+          one-frame-each = λ n b. ap (occurrences (frameTo w n)) went ∙ occurrences-are w n (same .log) ∙ once n b (same .log) (isIn n slots) refl (f .one-write-each n) (f .no-other-write n);
+          no-other-frame = ap length went ∙ length-map (same .log) (frameTo w) ∙ ap length (f .all-sent) ∙ D.left-is-writes o w (passed-first .fixed);
+          reached = λ n b. there n b (x .words) (isIn n slots) refl (f .reached n) (f .safe .others n);
           safe = f .safe;
         }
 
@@ -194,6 +205,10 @@ module _ (device : Device) (q o w : List ℤ) (d : List Event) (supposed : Suppo
       ∙ same-words device q o w not-refused (take n d))
       (D.cut-anywhere (packOf device) q o w (moments device w d) of-machine n)
 
+  -- "every setting in the job": all 50, since a fixed one holds its opening value
+  pub every-setting : (n m : ℕ) → (at (scene n .words) m ≡ at o m) ⊎ (at (scene n .words) m ≡ at w m)
+  every-setting n = D.of-all o w (scene n .words) (cut-anywhere n)
+
   -- The frames that went out by then are the front of the frames of the differing settings in their order, so that none went out twice
   pub frames-by-then : (n : ℕ) → (rest : List ℕ) × (scene n .sent ++ map (frameTo w) rest ≡ map (frameTo w) (writes slots o w))
   frames-by-then n =
@@ -216,7 +231,7 @@ module _ (device : Device) (q o w : List ℤ) (d : List Event) (supposed : Suppo
   -- done it is so.
   pub finishes : Answered device (begin q o w) d → leftOf (openOf o w .job) ≤ chances device (begin q o w) d → Finished o w (afterAll device (begin q o w) d)
   finishes own enough =
-      let first : leftOf (openOf o w .job) ≡ M.left 15 (M.jobOf o w M.ready) = ap leftOf (job-is device q o w not-refused) in
+      let first : leftOf (openOf o w .job) ≡ M.left 50 (M.jobOf o w M.ready) = ap leftOf (job-is device q o w not-refused) in
       finished-is device q o w not-refused d
       (D.finishes (packOf device) q o w (moments device w d) of-machine (to-answered device q o w not-refused d own)
       (omega (arith, first, same-chances device q o w not-refused d, enough)))
@@ -236,32 +251,32 @@ module _ (device : Device) (q o w : List ℤ) (d : List Event) (supposed : Suppo
   passed-opening = passed O.pathfinder o w (accepted-opens o w not-refused)
 
 -- from whatever cuts left, a restore towards the opening values brings every word back
-module _ (device : Device) (rule : WriteRule device) (o w : List ℤ) (p : Passed O.pathfinder o w) (q : List ℤ) (safe : Safe slots o w q) (in-range : O.ranged O.pathfinder (take 15 o) ≡ true) where
-  pub opens-back : openOf q (take 15 o) .opening ≡ Accepted
-  opens-back = opens-accepted q (take 15 o) (D.back o w p q safe in-range)
+module _ (device : Device) (rule : WriteRule device) (o w : List ℤ) (p : Passed O.pathfinder o w) (q : List ℤ) (safe : Safe slots o w q) (in-range : O.ranged O.pathfinder o ≡ true) where
+  pub opens-back : openOf q o .opening ≡ Accepted
+  opens-back = opens-accepted q o (D.back o w p q safe in-range)
 
-  pub all-back : (b : List Event) → OnLine device (begin q q (take 15 o)) b → Answered device (begin q q (take 15 o)) b
-      → leftOf (openOf q (take 15 o) .job) ≤ chances device (begin q q (take 15 o)) b
-      → leaves device (take 15 o) q b ≡ o
+  pub all-back : (b : List Event) → OnLine device (begin q q o) b → Answered device (begin q q o) b
+      → leftOf (openOf q o .job) ≤ chances device (begin q q o) b
+      → leaves device o q b ≡ o
   all-back b on own enough =
-      let v : List ℤ = take 15 o in
-      let first : leftOf (openOf q v .job) ≡ M.left 15 (M.jobOf q v M.ready) = ap leftOf (job-is device q q v opens-back) in
+      let v : List ℤ = o in
+      let first : leftOf (openOf q v .job) ≡ M.left 50 (M.jobOf q v M.ready) = ap leftOf (job-is device q q v opens-back) in
       sym (same-words device q q v opens-back b)
       ∙ D.all-back (packOf device) (pack-obeys device rule) o w p q safe in-range (moments device v b) (to-line device q q v opens-back b on) (to-answered device q q v opens-back b own)
       (omega (arith, first, same-chances device q q v opens-back b, enough))
 
 -- (c) "If the opening values were in range, such a restore towards them brings all 50 words back."
-module _ (device : Device) (q o w : List ℤ) (d : List Event) (supposed : Supposed device q o w d) (in-range : O.ranged O.pathfinder (take 15 o) ≡ true) (n : ℕ) where
+module _ (device : Device) (q o w : List ℤ) (d : List Event) (supposed : Supposed device q o w d) (in-range : O.ranged O.pathfinder o ≡ true) (n : ℕ) where
   abbrev found : List ℤ
   found = scene device q o w d supposed n .words
 
-  pub opens-towards-opening : openOf found (take 15 o) .opening ≡ Accepted
+  pub opens-towards-opening : openOf found o .opening ≡ Accepted
   opens-towards-opening =
       opens-back device (supposed .write-rule) o w (passed-opening device q o w d supposed) found (cut-anywhere device q o w d supposed n) in-range
 
-  pub brings-back : (b : List Event) → OnLine device (begin found found (take 15 o)) b → Answered device (begin found found (take 15 o)) b
-      → leftOf (openOf found (take 15 o) .job) ≤ chances device (begin found found (take 15 o)) b
-      → leaves device (take 15 o) found b ≡ o
+  pub brings-back : (b : List Event) → OnLine device (begin found found o) b → Answered device (begin found found o) b
+      → leftOf (openOf found o .job) ≤ chances device (begin found found o) b
+      → leaves device o found b ≡ o
   brings-back b on own enough =
       all-back device (supposed .write-rule) o w (passed-opening device q o w d supposed) found (cut-anywhere device q o w d supposed n) in-range b on own enough
 
@@ -328,12 +343,12 @@ module _ (device : Device) (rule : WriteRule device) (o w : List ℤ) (first : o
       )
 
     -- (c) again, after all these cut nights: a restore towards the values before the first of them opens, and brings all 50 words back
-    module _ (in-range : O.ranged O.pathfinder (take 15 o) ≡ true) where
-      pub nights-open-back : openOf last-found (take 15 o) .opening ≡ Accepted
+    module _ (in-range : O.ranged O.pathfinder o ≡ true) where
+      pub nights-open-back : openOf last-found o .opening ≡ Accepted
       nights-open-back = opens-back device rule o w first-passed last-found safe-before-last in-range
 
-      pub nights-brought-back : (b : List Event) → OnLine device (begin last-found last-found (take 15 o)) b
-          → Answered device (begin last-found last-found (take 15 o)) b
-          → leftOf (openOf last-found (take 15 o) .job) ≤ chances device (begin last-found last-found (take 15 o)) b
-          → leaves device (take 15 o) last-found b ≡ o
+      pub nights-brought-back : (b : List Event) → OnLine device (begin last-found last-found o) b
+          → Answered device (begin last-found last-found o) b
+          → leftOf (openOf last-found o .job) ≤ chances device (begin last-found last-found o) b
+          → leaves device o last-found b ≡ o
       nights-brought-back b on own enough = all-back device rule o w first-passed last-found safe-before-last in-range b on own enough

@@ -1,17 +1,15 @@
 -- Each call is a step of the machine of `restore_order`; and where the machine writes, next puts the one frame of request 0E into the room, which is
 -- read back as that register and value. Assumes nothing.
 use mathlib.Core.Path.{_≡_, refl, sym, ap, _∙_}
-use mathlib.Core.Bool.{Bool, true, false, _&&_}
+use mathlib.Core.Bool.{Bool, true, false}
 use mathlib.Core.List.{List, [], _∷_, _++_}
 use Prim.Native.Nat.{ℕ, _+_, _<_, _≤_, _^_}
 use native.Mathlib.Omega.{arith}
-use lib.IntN.{ℤ, pos, negsuc}
+use lib.IntN.{ℤ}
 use lib.Dec.{ltb}
-use lib.Signed.{mag, leZ}
-use lib.ListN.{length, getD, drop}
-use borrow.Author.Tests.{leb-true, ltb-true, ltb-false}
-use Rattle.laws.specs.Every.{every}
-use Rattle.laws.proofs.Every.{every-at}
+use lib.Signed.{mag}
+use lib.ListN.{length, drop}
+use borrow.Author.Tests.{ltb-false}
 use Rattle.laws.proofs.Ladders.{both}
 use Rattle.refusals.specs.declared.Written.{Written}
 use Rattle.refusals.specs.declared.Written.the-variants.{Frame as HasFrame, Refused as NoFrame}
@@ -19,17 +17,17 @@ use Rattle.numbers.specs.declared.Order.the-variants.{LowFirst}
 use Rattle.numbers.specs.Bytes.{bytesOf}
 use Rattle.signs.specs.Signed.{bitsOf}
 use Rattle.frames_written_pathfinder.specs.Writing.{frameBytes}
-use Rattle.registers_pathfinder.specs.Registers.{count, lows, highs, within, inRange}
+use Rattle.registers_pathfinder.specs.Registers.{inRange, fitsType}
+use Rattle.registers_pathfinder.proofs.Words.{in-range-known, fits-word}
 use Rattle.requests_pathfinder.specs.declared.Request.the-variants.{Write}
 use Rattle.requests_pathfinder.specs.Requests.{faultOf, sentAs}
 use Rattle.requests_pathfinder.proofs.Made.{goes-out}
 use Rattle.requests_read_pathfinder.specs.declared.Parsed.the-variants.{Is}
 use Rattle.requests_read_pathfinder.specs.Reading.{requestOf}
 use Rattle.requests_read_pathfinder.proofs.RoundTrip.{written-reads-back-request}
-use Rattle.restore_order.specs.Slots.{slots, at, writes}
+use Rattle.restore_order.specs.Slots.{slots, at, writes, isIn}
 use Rattle.restore_order.specs.Machine as M
-use Rattle.restore_order.specs.Opening.{pathfinder, opened, opening}
-use Rattle.restore_order.proofs.Integers.{clash}
+use Rattle.restore_order.specs.Opening.{pathfinder, opened, allows, opening}
 use Rattle.restore_order.proofs.Ordering.{in-below, first-in}
 use Rattle.restore_order.proofs.Openings.{passed}
 use Rattle.restore_order.proofs.Demand3.{slots-apart}
@@ -55,10 +53,10 @@ held-is m = ap (M.jobOf (m .present) (m .wanted)) (held-phase (m .phase))
 -- ---- an opened job's values are in range, and stay so, since no call changes what is wanted
 
 abbrev pub Ranged : Job → Type 0
-Ranged j = (n : ℕ) → n < 15 → inRange n (at (j .wanted) n) ≡ true
+Ranged j = (n : ℕ) → isIn n slots ≡ true → allows pathfinder n (at (j .wanted) n) ≡ true
 
 pub opened-in-range : (o w : List ℤ) → opening pathfinder o w ≡ opened (M.jobOf o w M.ready) → Ranged (held (M.jobOf o w M.ready))
-opened-in-range o w e n h = passed pathfinder o w e .in-range n h
+opened-in-range o w e n i = passed pathfinder o w e .in-range n (in-below 50 n slots slots-apart i) i
 
 pub next-keeps-wanted : (j : Job) (places : ℕ) (a : M.Asked) → stepFor j places a .job .wanted ≡ j .wanted
 next-keeps-wanted j places (M.write r v) = go (sentAs (Write r v) places)
@@ -86,7 +84,7 @@ reply-in-range j s h n b = rw (reply-keeps-wanted (j .present) (j .wanted) (j .p
 
 -- the write that goes out: a setting, its wanted value, and room for its frame
 pub record Writes (j : Job) (places r : ℕ) (v : ℤ) : Type 0 where
-  pub setting : r < 15
+  pub setting : isIn r slots ≡ true
   pub value : v ≡ at (j .wanted) r
   pub enough : 11 ≤ places
 
@@ -102,10 +100,10 @@ module _ (places r : ℕ) (v : ℤ) where
           let g : at w x ≡ v = cc in
           (rest, (ap (λ (n : ℕ). n ∷ rest) f, (sym g ∙ ap (at w) f, ltb-false places 11 h)))
 
-  asked-write : (p w : List ℤ) (ph : Phase) → M.askedIn slots places p w (phaseOf ph) ≡ M.write r v → (r < 15) × ((v ≡ at w r) × (11 ≤ places))
+  asked-write : (p w : List ℤ) (ph : Phase) → M.askedIn slots places p w (phaseOf ph) ≡ M.write r v → (isIn r slots ≡ true) × ((v ≡ at w r) × (11 ≤ places))
   asked-write p w Ready e =
       let o = offered-write w (writes slots p w) e in
-      (in-below 15 r slots slots-apart (first-in slots p w r (o .0) (o .1 .0)), o .1 .1)
+      (first-in slots p w r (o .0) (o .1 .0), o .1 .1)
   asked-write p w (Waiting n) e = let z : _≡_ {A = ℕ} 0 1 = cc in absurd (omega arith)
   asked-write p w Stopped e = let z : _≡_ {A = ℕ} 0 1 = cc in absurd (omega arith)
 
@@ -114,53 +112,38 @@ writes-what j places r v e =
     let a = asked-write places r v (j .present) (j .wanted) (j .phase) e in
     record { setting = a .0; value = a .1 .0; enough = a .1 .1 }
 
--- the writer of requests takes every write of a value in range
-pub no-fault : (r : ℕ) (v : ℤ) → inRange r v ≡ true → faultOf (Write r v) ≡ 0
-unfolding faultOf inRange
-no-fault r v h =
-    let a = both (ltb r count) (within (getD lows r (pos 0)) (getD highs r (pos 0)) v) h in
-    rw (a .0, a .1)
+-- ---- a value that may be wanted
 
--- such a value has 32 bits
-between-limits : (l v h : ℤ) (k : ℕ) → leZ l v ≡ true → leZ v h ≡ true → mag l < k → mag h < k → mag v < k
-between-limits l (pos n) (pos m) k a b x y = omega (arith, leb-true n m b)
-between-limits l (pos n) (negsuc m) k a b x y = clash b refl
-between-limits (pos m) (negsuc n) h k a b x y = clash a refl
-between-limits (negsuc m) (negsuc n) h k a b x y = omega (arith, leb-true n m a)
+module _ (r : ℕ) (v : ℤ) (h : allows pathfinder r v ≡ true) where
+  tests : (inRange r v ≡ true) × (fitsType r v ≡ true)
+  tests = both (inRange r v) (fitsType r v) h
 
-abbrev limit : ℕ → Bool
-limit n = ltb (mag (at lows n)) 2147483648 && ltb (mag (at highs n)) 2147483648
+  -- the writer of requests takes it
+  pub no-fault : faultOf (Write r v) ≡ 0
+  unfolding faultOf
+  no-fault = rw (in-range-known r v (tests .0), tests .0)
 
-limits : every 15 limit ≡ true
-unfolding every lows highs
-limits = refl
+  -- it has 32 bits
+  pub small : mag v < 2 ^ 31
+  small = fits-word r v (tests .1)
 
-pub small : (r : ℕ) (v : ℤ) → inRange r v ≡ true → mag v < 2 ^ 31
-unfolding inRange
-small r v h =
-    let a = both (ltb r count) (within (at lows r) (at highs r) v) h in
-    let b = both (leZ (at lows r) v) (leZ v (at highs r)) (a .1) in
-    let c = both (ltb (mag (at lows r)) 2147483648) (ltb (mag (at highs r)) 2147483648) (every-at 15 limit limits r (ltb-true r 15 (a .0))) in
-    between-limits (at lows r) v (at highs r) 2147483648 (b .0) (b .1)
-    (ltb-true (mag (at lows r)) 2147483648 (c .0)) (ltb-true (mag (at highs r)) 2147483648 (c .1))
-
-takes : (r places : ℕ) (v : ℤ) → inRange r v ≡ true → 11 ≤ places → sentAs (Write r v) places ≡ HasFrame 11
-takes r places v h enough = sym (goes-out (Write r v) places (no-fault r v h) enough)
+  takes : (places : ℕ) → 11 ≤ places → sentAs (Write r v) places ≡ HasFrame 11
+  takes places enough = sym (goes-out (Write r v) places no-fault enough)
 
 module _ (j : Job) (ranged : Ranged j) (places r : ℕ) (v : ℤ) (e : M.asked slots places (machine j) ≡ M.write r v) where
   facts : Writes j places r v
   facts = writes-what j places r v e
 
-  in-range : inRange r v ≡ true
+  in-range : allows pathfinder r v ≡ true
   in-range = rw (facts .value) (ranged r (facts .setting))
 
   -- one frame, then waiting
   pub one-frame : _≡_ {A = Stepped} (nextOf j places) (record { step = Frame 11; job = held (M.afterAsked (M.write r v) (machine j)) })
-  one-frame = rw (e, takes r places v in-range (facts .enough))
+  one-frame = rw (e, takes r v in-range places (facts .enough))
 
   -- it is the frame of request 0E with the register and the four bytes of the value, and the bytes after it keep their contents
   pub its-bytes : (out : List ℕ) → length out ≡ places → roomOf j out ≡ frameBytes 0x0E (r ∷ bytesOf LowFirst 4 (bitsOf 32 v)) ++ drop 11 out
-  its-bytes out h = rw (h, e, h, takes r places v in-range (facts .enough))
+  its-bytes out h = rw (h, e, h, takes r v in-range places (facts .enough))
 
   -- which the reader of requests reads back as that register and value
   pub reads-back : requestOf (frameBytes 0x0E (r ∷ bytesOf LowFirst 4 (bitsOf 32 v))) ≡ Is (Write r v)

@@ -13,7 +13,7 @@ use Rattle.requests_pathfinder.specs.declared.Request.the-variants.{Write}
 use Rattle.requests_pathfinder.specs.Requests.{sentAs}
 use Rattle.restore_order.specs.Slots.{at, writes, sides, slots}
 use Rattle.restore_order.specs.Machine as M
-use Rattle.restore_order.specs.Opening.{pathfinder, inOrder, shapely, ranged, opening}
+use Rattle.restore_order.specs.Opening.{pathfinder, inOrder, shapely, unmoved, ranged, opening}
 use Rattle.restore_jobs.specs.declared.Phase.{Phase}
 use Rattle.restore_jobs.specs.declared.Phase.the-variants.{Ready, Waiting, Stopped}
 use Rattle.restore_jobs.specs.declared.Job.{Job}
@@ -26,14 +26,15 @@ use Rattle.restore_bytes.specs.Jobs.{isFirst, phaseStands, stands}
 
 pub opened-stands : (o w : List ℤ) → stands (openOf o w .job) ≡ true
 unfolding opening stands
-opened-stands o w = go (shapely pathfinder o w) (ranged pathfinder w) (sides slots w) (sides slots o)
+opened-stands o w = go (shapely pathfinder o w) (unmoved pathfinder o w) (ranged pathfinder w) (sides slots w) (sides slots o)
   where
-    go : (a b c d : Bool) → stands (openedAs (inOrder a b c d (M.jobOf o w M.ready)) .job) ≡ true
-    go false b c d = refl
-    go true false c d = refl
-    go true true false d = refl
-    go true true true false = refl
-    go true true true true = refl
+    go : (a b c d e : Bool) → stands (openedAs (inOrder a b c d e (M.jobOf o w M.ready)) .job) ≡ true
+    go false b c d e = refl
+    go true false c d e = refl
+    go true true false d e = refl
+    go true true true false e = refl
+    go true true true true false = refl
+    go true true true true true = refl
 
 -- ---- next
 

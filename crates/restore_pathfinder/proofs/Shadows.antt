@@ -9,9 +9,9 @@ use lib.IntN.{ℤ}
 use lib.ListN.{length, take, drop}
 use lib.Seq.{take-at}
 use Rattle.frames_written_pathfinder.specs.Writing.{frameBytes}
-use Rattle.registers_pathfinder.specs.Registers.{inRange}
 use Rattle.restore_order.specs.Slots.{slots, at}
 use Rattle.restore_order.specs.Machine as M
+use Rattle.restore_order.specs.Opening.{pathfinder, allows}
 use Rattle.restore_order.specs.Line as L
 use Rattle.restore_order.specs.Suppositions as S
 use Rattle.restore_jobs.specs.declared.Phase.{Phase}
@@ -56,8 +56,8 @@ goes-out-is j ranged room = go (M.asked slots (length room) (machine j)) refl
 abbrev pub packOf : Device → L.Pack
 packOf device q r v = record { words = device q (writeFrame r v) .words; answer = readAs (device q (writeFrame r v) .reply) }
 
-pub pack-obeys : (device : Device) → WriteRule device → L.WriteRule 50 inRange (packOf device)
-pack-obeys device rule q r v long e = rw (rule q r v long e, success-is-read)
+pub pack-obeys : (device : Device) → WriteRule device → L.WriteRule slots 50 (allows pathfinder) (packOf device)
+pack-obeys device rule q r v long i e = rw (rule q r v long i e, success-is-read)
 
 -- ---- one call
 

@@ -9,15 +9,14 @@ use Prim.Native.Nat.{ℕ, suc, _≤_}
 use native.Mathlib.Omega.{arith}
 use lib.IntN.{ℤ, pos}
 use lib.ListN.{length, replicate, set}
-use Rattle.laws.specs.Every.{every}
+use Rattle.laws.specs.Choice.{pick}
 use Rattle.checks.specs.Crc.{shift, shifts, crcFrom, crcOf}
 use Rattle.refusals.specs.Refused.{refusedWith, checksum}
 use Rattle.refusals.specs.declared.Refusal.{Refusal}
 use Rattle.frames_pathfinder.specs.Reading.{frameOf}
 use Rattle.refusals.specs.Writing.{writtenAs}
 use Rattle.frames_written_pathfinder.specs.Writing.{frameBytes}
-use Rattle.types_pathfinder.specs.Types as types
-use Rattle.registers_pathfinder.specs.Registers.{typeLows, typeHighs, lows, highs, fitsType, inRange}
+use Rattle.registers_pathfinder.specs.Registers.{registers, isRegister, inRange}
 use Rattle.opcodes_pathfinder.specs.Opcodes.{isFailure, isListed, kindOf, shapeOf}
 use Rattle.records_pathfinder.specs.Replies.{judged, replyOf}
 use Rattle.requests_pathfinder.specs.declared.Request.the-variants.{Ask, Write}
@@ -26,7 +25,7 @@ use Rattle.requests_read_pathfinder.specs.declared.Parsed.the-variants.{Is, Ref
 use Rattle.requests_pathfinder.specs.Requests.{faultOf}
 use Rattle.requests_read_pathfinder.specs.Reading.{parsedSet, parsedOf, requestOf}
 use Rattle.requests_read_pathfinder.proofs.RoundTrip.{written-reads-back-request}
-use Rattle.restore_order.specs.Slots.{slots, at, writes, put, sides}
+use Rattle.restore_order.specs.Slots.{slots, at, writes, put, isIn}
 use Rattle.restore_order.specs.Machine as M
 use Rattle.restore_order.specs.Opening as O
 use Rattle.restore_order.specs.Suppositions.{Idle}
@@ -52,9 +51,10 @@ use Rattle.restore_pathfinder.proofs.Demand3.{accepted-opens}
 
 -- ---- a pack
 
--- it reads a request as the request reader does, obeys a write, and answers bytes that are no request with the failure 24
+-- it reads a request as the request reader does, obeys a write, which moves a word if its register is a setting's, and answers bytes that are no
+-- request with the failure 24
 abbrev pub reaction : List ℤ → Parsed → Reaction
-reaction q (Is (Write r v)) = record { words = set q r v; reply = successFrame }
+reaction q (Is (Write r v)) = record { words = pick (isIn r slots) (set q r v) q; reply = successFrame }
 reaction q (Is (Ask op)) = record { words = q; reply = frameBytes 0x21 [] }
 reaction q (Refused why) = record { words = q; reply = frameBytes 0x24 [] }
 
@@ -63,7 +63,8 @@ plain q s = reaction q (requestOf s)
 
 pub plain-obeys : WriteRule plain
 unfolding plain
-plain-obeys q r v long e = ap (reaction q) (written-reads-back-request (Write r v) (small r v e) (no-fault r v e))
+plain-obeys q r v long i e =
+    ap (reaction q) (written-reads-back-request (Write r v) (small r v e) (no-fault r v e)) ∙ rw i
 
 -- a frame spoilt on the way changes nothing
 pub plain-answers-spoilt : (q : List ℤ) (s : List ℕ) (why : Refusal) → requestOf s ≡ Refused why → plain q s ≡ record { words = q; reply = frameBytes 0x24 [] }
@@ -73,8 +74,8 @@ plain-answers-spoilt q s why e = ap (reaction q) e
 -- ---- a dialogue for every opening
 
 module _ (device : Device) (rule : WriteRule device) (o w : List ℤ) (p : Passed O.pathfinder o w) where
-  t : Tested slots 15 50 inRange o w
-  t = tested O.pathfinder D.slots-apart (omega arith) o w p
+  t : Tested slots 50 50 (O.allows O.pathfinder) o w
+  t = tested O.pathfinder D.slots-apart o w p
 
   abbrev room : List ℕ
   room = replicate 11 0
@@ -94,7 +95,7 @@ module _ (device : Device) (rule : WriteRule device) (o w : List ℤ) (p : Passe
     job = held (M.jobOf q w M.ready)
 
     ranged : Ranged job
-    ranged n b = p .in-range n b
+    ranged n i = t .in-range n i
 
     asks : M.asked slots 11 (machine job) ≡ M.write r (at w r)
     asks = rw e
@@ -107,11 +108,11 @@ module _ (device : Device) (rule : WriteRule device) (o w : List ℤ) (p : Passe
 
     -- the frame and its reply
     module _ where
-      in-its-range : inRange r (at w r) ≡ true
-      in-its-range = t .in-range r (first-in slots q w r rest e)
+      is-setting : isIn r slots ≡ true
+      is-setting = first-in slots q w r rest e
 
       made : device q (writeFrame r (at w r)) ≡ record { words = put q w r; reply = successFrame }
-      made = rule q r (at w r) (safe .long ∙ t .words) in-its-range
+      made = rule q r (at w r) (safe .long ∙ t .words) is-setting (t .in-range r is-setting)
 
       abbrev sending : Event
       sending = next room true (put q w r)
@@ -206,8 +207,8 @@ module _ (device : Device) (rule : WriteRule device) (o w : List ℤ) (p : Passe
   meets (r ∷ rest) q line fs safe e =
       round q line fs safe r rest e (length rest) (dialogue rest (put q w r))
       (meets rest (put q w r) (successFrame ∷ []) (fs ++ (writeFrame r (at w r) ∷ []))
-      (written-safe slots 15 50 inRange (packOf device) (pack-obeys device rule) o w t q safe r rest e)
-      (in-order slots 15 50 inRange (packOf device) (pack-obeys device rule) o w t q safe r rest e .1))
+      (written-safe slots 50 50 (O.allows O.pathfinder) (packOf device) (pack-obeys device rule) o w t q safe r rest e)
+      (in-order slots 50 50 (O.allows O.pathfinder) (packOf device) (pack-obeys device rule) o w t q safe r rest e .1))
 
   -- ---- and one with a failure: the first frame is spoilt on the way, the pack goes on holding what it held, and answers with a device failure;
   -- the job is stopped, and refuses both calls
@@ -217,7 +218,7 @@ module _ (device : Device) (rule : WriteRule device) (o w : List ℤ) (p : Passe
     failing = next room false o ∷ reply (frameBytes code []) o ∷ next room true o ∷ reply successFrame o ∷ []
 
     unmoved : Safe slots o w o
-    unmoved = begins slots 15 50 inRange (packOf device) (pack-obeys device rule) o w t .0
+    unmoved = begins slots 50 50 (O.allows O.pathfinder) (packOf device) (pack-obeys device rule) o w t .0
 
     out : goesOut (held (M.jobOf o w M.ready)) room ≡ writeFrame r (at w r) ∷ []
     out = frame-out o [] [] unmoved r rest e
@@ -315,9 +316,9 @@ module _ (device : Device) (rule : WriteRule device) (o w : List ℤ) (accepted 
   some-run =
       let ws : List ℕ = writes slots o w in
       let d : List Event = dialogue device rule o w p ws o in
-      let safe = begins slots 15 50 inRange (packOf device) (pack-obeys device rule) o w (t device rule o w p) .0 in
+      let safe = begins slots 50 50 (O.allows O.pathfinder) (packOf device) (pack-obeys device rule) o w (t device rule o w p) .0 in
       let m : Meets device rule o w p (length ws) (between device rule o w p o [] []) d = meets device rule o w p ws o [] [] safe refl in
-      let left : leftOf (openOf o w .job) ≡ M.left 15 (M.jobOf o w M.ready) = ap (λ (x : Scene). leftOf (x .job)) (sym starts) in
+      let left : leftOf (openOf o w .job) ≡ M.left 50 (M.jobOf o w M.ready) = ap (λ (x : Scene). leftOf (x .job)) (sym starts) in
       let enough : length ws ≤ chances device (begin o o w) d = subst (λ (x : Scene). length ws ≤ chances device x d) starts (m .enough) in (
         d,
         (
@@ -327,7 +328,7 @@ module _ (device : Device) (rule : WriteRule device) (o w : List ℤ) (accepted 
               own-reply = subst (λ (x : Scene). Always device (OwnReply device) x d) starts (m .own-reply);
               not-cut = subst (λ (x : Scene). Idle (phaseOf (afterAll device x d .job .phase))) starts (m .not-cut);
             },
-            omega (arith, left, enough, D.left-is-writes o w),
+            omega (arith, left, enough, D.left-is-writes o w (p .fixed)),
           ),
         ),
       )
@@ -381,15 +382,11 @@ story =
     ∷ []
 
 pub p11-cut : Supposed plain present present wanted story
-unfolding story plain after writes requestOf parsedOf parsedSet frameOf frameBytes writtenAs faultOf replyOf judged kindOf isFailure isListed shapeOf crcOf crcFrom shifts shift inRange fitsType lows highs typeLows typeHighs types.settings O.opening every sides
+unfolding story plain after writes requestOf parsedOf parsedSet frameOf frameBytes writtenAs faultOf replyOf judged kindOf isFailure isListed shapeOf crcOf crcFrom shifts shift isRegister inRange registers isIn
 p11-cut =
-    record {
-      write-rule = plain-obeys;
-      on-line =
-          record {
-            at-once-or-never = (tt, (refl, (tt, (tt, (tt, (refl, tt))))));
-            answers-frame-sent = (tt, (tt, (tt, (tt, (refl, (tt, tt))))));
-            nobody-else = (refl, (tt, (refl, (refl, (refl, (tt, tt))))));
-          };
-      opened-truly = record { true-reading = refl; not-refused = p11-accepted };
-    }
+    supposed plain plain-obeys present wanted p11-accepted story
+    (record {
+      at-once-or-never = (tt, (refl, (tt, (tt, (tt, (refl, tt))))));
+      answers-frame-sent = (tt, (tt, (tt, (tt, (refl, (tt, tt))))));
+      nobody-else = (refl, (tt, (refl, (refl, (refl, (tt, tt))))));
+    })

@@ -37,9 +37,9 @@ pub record Finished (o w : List ℤ) (x : Scene) : Type 0 where
   pub says-done : (room : List ℕ) → nextOf (x .job) (length room) .step ≡ Done
   -- the very bytes of what went out, in order
   pub frames : x .sent ≡ map (frameTo w) (writes slots o w)
-  pub one-frame-each : (n : ℕ) → n < 15 → occurrences (frameTo w n) (x .sent) ≡ one (differs o w n)
-  pub no-other-frame : length (x .sent) ≡ howMany 15 (differs o w)
-  pub reached : (n : ℕ) → n < 15 → at (x .words) n ≡ at w n
+  pub one-frame-each : (n : ℕ) → n < 50 → occurrences (frameTo w n) (x .sent) ≡ one (differs o w n)
+  pub no-other-frame : length (x .sent) ≡ howMany 50 (differs o w)
+  pub reached : (n : ℕ) → n < 50 → at (x .words) n ≡ at w n
   pub safe : Safe slots o w (x .words)
 
 -- ---- restores towards the same values one after the other, each opened on a fresh reading of what the one before left, each cut where it ends

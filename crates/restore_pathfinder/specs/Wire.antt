@@ -11,7 +11,8 @@ use Rattle.numbers.specs.declared.Order.the-variants.{LowFirst}
 use Rattle.numbers.specs.Bytes.{bytesOf}
 use Rattle.signs.specs.Signed.{bitsOf}
 use Rattle.frames_written_pathfinder.specs.Writing.{frameBytes}
-use Rattle.registers_pathfinder.specs.Registers.{inRange}
+use Rattle.restore_order.specs.Slots.{isIn, slots}
+use Rattle.restore_order.specs.Opening.{pathfinder, allows}
 use Rattle.restore_jobs.specs.declared.Job.{Job}
 use Rattle.restore_next.specs.declared.Step.{Step}
 use Rattle.restore_next.specs.declared.Step.the-variants.{Frame, Done, Refused as NoStep}
@@ -38,9 +39,14 @@ abbrev pub successFrame : List ℕ
 successFrame = 0xFE ∷ 0x01 ∷ 0x0E ∷ 0xD2 ∷ 0xFF ∷ 0xFD ∷ []
 
 -- "Write rule of a pack: a known register and a value in range change that register only, and answer success."
+-- Of the registers that settings have, and of values that are of the setting's type, as all wanted ones are: nothing is supposed of others
 abbrev pub WriteRule : Device → Type 0
 WriteRule device =
-    (q : List ℤ) (r : ℕ) (v : ℤ) → length q ≡ 50 → inRange r v ≡ true → device q (writeFrame r v) ≡ record { words = set q r v; reply = successFrame }
+    (q : List ℤ) (r : ℕ) (v : ℤ)
+    → length q ≡ 50
+    → isIn r slots ≡ true
+    → allows pathfinder r v ≡ true
+    → device q (writeFrame r v) ≡ record { words = set q r v; reply = successFrame }
 
 -- ---- a restore
 

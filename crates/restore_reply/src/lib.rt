@@ -1,4 +1,4 @@
-// The night restore of the Pathfinder's settings 0 to 14 (01, Restore): reply, the call that takes what the pack answers to a write, on a job of
+// The night restore of the Pathfinder's settings (01, Restore): reply, the call that takes what the pack answers to a write, on a job of
 // `restore_jobs`. It is one step of the small machine of `restore_order`, about which demand 3 is proved.
 use records_pathfinder::Reply;
 use records_pathfinder::read_reply;
@@ -115,10 +115,10 @@ fn marked(job: Job, register: u8) -> Job
 }
 
 // The wanted value of a setting, 0 where there is none.
-fn wanted_value(wanted: [i32; 15], n: u8) -> i32
+fn wanted_value(wanted: [i32; 50], n: u8) -> i32
     ensures { λ r. ⌜ r ≡ at wanted n ⌝ }
 {
-    if n < 15 { wanted[n as usize] } else { 0 }
+    if n < 50 { wanted[n as usize] } else { 0 }
 }
 
 fn stopped(job: Job) -> Job

@@ -1,3 +1,3 @@
 pub mod Loops
 pub mod Numbers
-pub mod Slots
+pub mod Walk

@@ -36,17 +36,17 @@ in-range Ready = refl
 in-range (Waiting r) = refl
 in-range Stopped = refl
 
-module _ (j : Job) (present : length (j .present) ≡ 50) (wanted : length (j .wanted) ≡ 15) where
+module _ (j : Job) (present : length (j .present) ≡ 50) (wanted : length (j .wanted) ≡ 50) where
   p-size : length (bytesOfWords (j .present)) ≡ 200
   p-size = bytes-length (j .present) ∙ omega arith
 
-  w-size : length (bytesOfWords (j .wanted)) ≡ 60
+  w-size : length (bytesOfWords (j .wanted)) ≡ 200
   w-size = bytes-length (j .wanted) ∙ omega arith
 
-  front : length (bytesOfWords (j .present) ++ bytesOfWords (j .wanted)) ≡ 260
+  front : length (bytesOfWords (j .present) ++ bytesOfWords (j .wanted)) ≡ 400
   front = length-append (bytesOfWords (j .present)) (bytesOfWords (j .wanted)) ∙ omega (arith, p-size, w-size)
 
-  size : length (jobBytes j) ≡ 262
+  size : length (jobBytes j) ≡ 402
   unfolding jobBytes
   size = length-append (bytesOfWords (j .present) ++ bytesOfWords (j .wanted)) (phaseBytes (j .phase)) ∙ omega (arith, front)
 
@@ -57,25 +57,25 @@ module _ (j : Job) (present : length (j .present) ≡ 50) (wanted : length (j .w
   first-part : take 200 (jobBytes j) ≡ bytesOfWords (j .present)
   first-part = ap (take 200) grouped ∙ take-at (bytesOfWords (j .present)) _ 200 p-size
 
-  second-part : take 60 (drop 200 (jobBytes j)) ≡ bytesOfWords (j .wanted)
+  second-part : take 200 (drop 200 (jobBytes j)) ≡ bytesOfWords (j .wanted)
   second-part =
-      ap (λ (l : List ℕ). take 60 (drop 200 l)) grouped ∙ ap (take 60) (drop-at (bytesOfWords (j .present)) _ 200 p-size)
-      ∙ take-at (bytesOfWords (j .wanted)) (phaseBytes (j .phase)) 60 w-size
+      ap (λ (l : List ℕ). take 200 (drop 200 l)) grouped ∙ ap (take 200) (drop-at (bytesOfWords (j .present)) _ 200 p-size)
+      ∙ take-at (bytesOfWords (j .wanted)) (phaseBytes (j .phase)) 200 w-size
 
-  phase-there : getD (jobBytes j) 260 0 ≡ phaseByte (j .phase)
+  phase-there : getD (jobBytes j) 400 0 ≡ phaseByte (j .phase)
   unfolding jobBytes
-  phase-there = getD-at (bytesOfWords (j .present) ++ bytesOfWords (j .wanted)) _ _ 0 260 front
+  phase-there = getD-at (bytesOfWords (j .present) ++ bytesOfWords (j .wanted)) _ _ 0 400 front
 
-  register-there : getD (jobBytes j) 261 0 ≡ registerByte (j .phase)
+  register-there : getD (jobBytes j) 401 0 ≡ registerByte (j .phase)
   unfolding jobBytes
   register-there =
-      let e : 261 ≡ length (bytesOfWords (j .present) ++ bytesOfWords (j .wanted)) + 1 = omega (arith, front) in
+      let e : 401 ≡ length (bytesOfWords (j .present) ++ bytesOfWords (j .wanted)) + 1 = omega (arith, front) in
       ap (λ (i : ℕ). getD (bytesOfWords (j .present) ++ bytesOfWords (j .wanted) ++ phaseBytes (j .phase)) i 0) e
       ∙ getD-append-add (bytesOfWords (j .present) ++ bytesOfWords (j .wanted)) (phaseBytes (j .phase)) 1 0
 
   pub job-back : Fitting (j .present) → Fitting (j .wanted) → jobOf (jobBytes j) ≡ j
   job-back f g =
-      sym (job-is (jobBytes j) (eq-eqb (length (jobBytes j)) 262 size)
+      sym (job-is (jobBytes j) (eq-eqb (length (jobBytes j)) 402 size)
       (sym (ap₂ words (sym present) first-part ∙ row-back (j .present) f))
       (sym (ap₂ words (sym wanted) second-part ∙ row-back (j .wanted) g))
       (sym (ap₂ phaseIn phase-there register-there ∙ phase-back (j .phase))))
@@ -84,4 +84,4 @@ module _ (j : Job) (present : length (j .present) ≡ 50) (wanted : length (j .w
   pub is-job-back : Fitting (j .present) → Fitting (j .wanted) → stands j ≡ true → isJob (jobBytes j) ≡ true
   unfolding isJob
   is-job-back f g h =
-      simp (eq-eqb (length (jobBytes j)) 262 size, phase-there, in-range (j .phase)) (ap stands (job-back f g) ∙ h)
+      simp (eq-eqb (length (jobBytes j)) 402 size, phase-there, in-range (j .phase)) (ap stands (job-back f g) ∙ h)

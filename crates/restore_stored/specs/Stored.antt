@@ -1,4 +1,4 @@
--- A restore's job written: the 262 bytes that hold it, each part where restore_bytes (specs/Jobs.antt) says, and what bytes that are lent hold then.
+-- A restore's job written: the 402 bytes that hold it, each part where restore_bytes (specs/Jobs.antt) says, and what bytes that are lent hold then.
 -- Assumes nothing.
 use Prim.Native.Nat.{ℕ}
 use mathlib.Core.List.{List, [], _∷_, _++_}

@@ -1,4 +1,4 @@
-// A restore's job put into the 262 bytes that `restore_bytes` reads; proofs/RoundTrip.antt has that it reads back.
+// A restore's job put into the 402 bytes that `restore_bytes` reads; proofs/RoundTrip.antt has that it reads back.
 use lists_pathfinder::put_words;
 use restore_jobs::Job;
 use restore_jobs::Phase;
@@ -16,19 +16,19 @@ pub fn put_job(j: Job, b: &mut [u8]) -> u8
         return refusals::SHAPE;
     }
     put_words(&j.present, &mut b[0..200]);
-    put_words(&j.wanted, &mut b[200..260]);
+    put_words(&j.wanted, &mut b[200..400]);
     let phase = j.phase;
     put_phase(phase, b);
     0
 }
 
 fn put_phase(phase: Phase, b: &mut [u8])
-    requires { ⌜ length (now b) ≡ 262 ⌝ }
-    ensures { λ _. ⌜ now (b .exit) ≡ take 260 (now (b .entry)) ++ phaseBytes phase ⌝ }
+    requires { ⌜ length (now b) ≡ 402 ⌝ }
+    ensures { λ _. ⌜ now (b .exit) ≡ take 400 (now (b .entry)) ++ phaseBytes phase ⌝ }
 {
     let bytes = phase_bytes(phase);
-    b[260] = bytes[0];
-    b[261] = bytes[1];
+    b[400] = bytes[0];
+    b[401] = bytes[1];
 }
 
 fn phase_bytes(phase: Phase) -> [u8; 2]

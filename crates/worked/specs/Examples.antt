@@ -1,9 +1,10 @@
 -- The worked examples of 01 (Examples, P1 to P12): what the definitions that the contracts cite give, each tested against what 01 says.
 -- Assumes nothing.
 use mathlib.Core.Bool.{Bool, true, false, not, _&&_}
-use mathlib.Core.List.{List, [], _∷_}
+use mathlib.Core.List.{List, [], _∷_, _++_}
 use Prim.Native.Nat.{ℕ}
 use lib.Dec.{eqb}
+use lib.ListN.{replicate}
 use lib.IntN.{ℤ, pos, negsuc}
 use Rattle.checks.specs.Crc.{crcOf}
 use Rattle.sums.specs.Sums.{total, closing}
@@ -67,10 +68,9 @@ limits = 0x01 ∷ 0xFF ∷ 0x97 ∷ 0xFF ∷ 0x92 ∷ 0x0A ∷ []
 abbrev pub noted : Time
 noted = record { year = 17; month = 5; day = 12; hour = 10; minute = 30; second = 50 }
 
--- fifteen settings that are 0, but for 3 and 4
+-- fifty settings that are 0, but for 3 and 4
 abbrev pub pairOf : ℕ → ℕ → List ℤ
-pairOf a b =
-    pos 0 ∷ pos 0 ∷ pos 0 ∷ pos a ∷ pos b ∷ pos 0 ∷ pos 0 ∷ pos 0 ∷ pos 0 ∷ pos 0 ∷ pos 0 ∷ pos 0 ∷ pos 0 ∷ pos 0 ∷ pos 0 ∷ []
+pairOf a b = replicate 3 (pos 0) ++ (pos a ∷ pos b ∷ replicate 45 (pos 0))
 
 -- ---- the examples
 

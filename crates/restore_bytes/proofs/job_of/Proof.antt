@@ -59,10 +59,10 @@ phase-of-requires c κs = search needs
 returns-2 : tie.Need-returns-2
 returns-2 c =
     let b = c .before .before .before .before .before .before .before .before .before .before .before .before .before .args .b .now in
-    let long : length b ≡ 262 = c .before .before .before .before .before .before .before .before .before .before .before .if1 .left in
+    let long : length b ≡ 402 = c .before .before .before .before .before .before .before .before .before .before .before .if1 .left in
     let first : length (take 200 b) ≡ 200 = length-take-le 200 b (omega arith) in
-    let second : length (take 60 (drop 200 b)) ≡ 60 = length-take-le 60 (drop 200 b) (omega (arith, length-drop 200 b)) in
-    job-is b (eq-eqb _ _ long) (c .before .before .before .before .before .before .before .before .read-words .ensures .1 ∙ row-read (take 200 b) (replicate 50 (pos 0)) first) (c .before .before .before .before .read-words2 .ensures .1 ∙ row-read (take 60 (drop 200 b)) (replicate 15 (pos 0)) second) (c .phase-of .ensures)
+    let second : length (take 200 (drop 200 b)) ≡ 200 = length-take-le 200 (drop 200 b) (omega (arith, length-drop 200 b)) in
+    job-is b (eq-eqb _ _ long) (c .before .before .before .before .before .before .before .before .read-words .ensures .1 ∙ row-read (take 200 b) (replicate 50 (pos 0)) first) (c .before .before .before .before .read-words2 .ensures .1 ∙ row-read (take 200 (drop 200 b)) (replicate 50 (pos 0)) second) (c .phase-of .ensures)
 
 pub job-of-spec : {M : Type 1} → statement M
 job-of-spec =

@@ -15,10 +15,10 @@ use Rattle.restore_opening.proofs.all_fit.Statement.{statement}
 use Rattle.restore_opening.proofs.all_fit.Tie as tie
 
 abbrev Inv-loop : tie.InvT-loop
-Inv-loop values wanted n₀ n = (n ≤ 15) × (every n (λ m. fits wanted m (at values m)) ≡ true)
+Inv-loop values wanted n₀ n = (n ≤ 50) × (every n (λ m. fits wanted m (at values m)) ≡ true)
 
 abbrev μ-loop : tie.MeasureT-loop
-μ-loop values wanted n₀ n = 15 - n
+μ-loop values wanted n₀ n = 50 - n
 
 loop-holds : tie.Need-loop-holds Inv-loop μ-loop
 loop-holds c = (omega arith, every-none _)
@@ -42,7 +42,7 @@ returns c =
     let e : fits (a .wanted) n (at (a .values .now) n) ≡ false =
     ap (fits (a .wanted) n) (sym (from-bits (at (a .values .now) n) (c .before .before .is-fit-arg .given)))
     ∙ sym (c .before .is-fit .ensures) ∙ not-true (c .before .is-fit .result) (c .if1 .taken) in
-    sym (every-stops (λ m. fits (a .wanted) m (at (a .values .now) m)) 15 n (c .before .before .before .loop-test .taken) e)
+    sym (every-stops (λ m. fits (a .wanted) m (at (a .values .now) m)) 50 n (c .before .before .before .loop-test .taken) e)
 
 add-n : tie.Need-add-n Inv-loop μ-loop
 add-n c = search needs
@@ -62,7 +62,7 @@ loop-again c =
 returns-2 : tie.Need-returns-2 Inv-loop μ-loop
 returns-2 c =
     let a = c .before .before .args in
-    let e : c .before .loop .n ≡ 15 = omega arith in
+    let e : c .before .loop .n ≡ 50 = omega arith in
     sym (ap (λ (n : ℕ). every n (λ m. fits (a .wanted) m (at (a .values .now) m))) (sym e) ∙ c .before .loop .inv .1)
 
 pub all-fit-spec : {M : Type 1} → statement M

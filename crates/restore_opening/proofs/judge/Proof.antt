@@ -1,4 +1,4 @@
--- `judge` meets its contract. Words and values are judged where there are 50 and 15; else the shape is wrong.
+-- `judge` meets its contract. Words and values are judged where there are 50 of each; else the shape is wrong.
 -- Assumes nothing.
 use mathlib.Core.Path.{sym, _∙_}
 use lib.Dec.{eqb}
@@ -16,7 +16,7 @@ is-sized-requires c κs = search needs
 judge-values-requires : tie.Need-judge-values-requires
 judge-values-requires c κs =
     let a = c .before .before .args in
-    let b = both (eqb (length (a .present .now)) 50) (eqb (length (a .wanted .now)) 15) (sym (c .before .is-sized .ensures) ∙ c .if1 .taken) in
+    let b = both (eqb (length (a .present .now)) 50) (eqb (length (a .wanted .now)) 50) (sym (c .before .is-sized .ensures) ∙ c .if1 .taken) in
     (eqb-true _ _ (b .0), eqb-true _ _ (b .1))
 
 returns : tie.Need-returns

@@ -19,7 +19,7 @@ returns c = search needs
 
 returns-2 : tie.Need-returns-2
 returns-2 c =
-    let h : length (c .before .args .t1) ≡ 15 = search needs in
+    let h : length (c .before .args .t1) ≡ 50 = search needs in
     sym (List·getD-eq-default (c .before .args .t1) (pos 0) (omega arith))
 
 pub wanted-value-spec : {M : Type 1} → statement M

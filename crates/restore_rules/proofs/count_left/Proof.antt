@@ -13,16 +13,13 @@ use Rattle.restore_rules.proofs.count_left.Statement.{statement}
 use Rattle.restore_rules.proofs.count_left.Tie as tie
 
 abbrev Inv-loop : tie.InvT-loop
-Inv-loop present wanted count₀ n₀ count n = (n ≤ 15) × (count ≡ howMany n (differs present wanted))
+Inv-loop present wanted count₀ n₀ count n = (n ≤ 50) × (count ≡ howMany n (differs present wanted))
 
 abbrev μ-loop : tie.MeasureT-loop
-μ-loop present wanted count₀ n₀ count n = 15 - n
+μ-loop present wanted count₀ n₀ count n = 50 - n
 
 loop-holds : tie.Need-loop-holds Inv-loop μ-loop
 loop-holds c = (omega arith, sym (none-counted _))
-
-cast-changed : tie.Need-cast-changed Inv-loop μ-loop
-cast-changed c = search needs
 
 changed-requires : tie.Need-changed-requires Inv-loop μ-loop
 changed-requires c κs = search needs
@@ -47,10 +44,15 @@ loop-again c =
     (λ v. (omega arith, omega (arith, one-more f (l .loop .n) false (sym (c .before .changed .ensures) ∙ v .0 .left), v .1)))
     (c .if1 .came)
 
+cast-result : tie.Need-cast-result Inv-loop μ-loop
+cast-result c =
+    let l = c .before in
+    record { fits = omega (arith, at-most (l .loop .n) (differs (l .before .args .present .now) (l .before .args .wanted .now)), l .loop .inv) }
+
 returns : tie.Need-returns Inv-loop μ-loop
 returns c =
     let l = c .before in
-    let e : l .loop .n ≡ 15 = omega arith in
+    let e : l .loop .n ≡ 50 = omega arith in
     l .loop .inv .1 ∙ ap (λ (n : ℕ). howMany n (differs (l .before .args .present .now) (l .before .args .wanted .now))) e
 
 pub count-left-spec : {M : Type 1} → statement M
@@ -60,10 +62,10 @@ count-left-spec =
     Inv-loop
     μ-loop
     loop-holds
-    cast-changed
     changed-requires
     add-count
     add-n
     loop-less
     loop-again
+    cast-result
     returns)

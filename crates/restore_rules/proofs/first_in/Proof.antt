@@ -1,4 +1,4 @@
--- `first_in` meets its contract. The test of the upper member, its numbers read back from their bits (`from-bits`), settles the order (`first-of-slot`).
+-- `first_in` meets its contract. The test of the upper member, its numbers read back from their bits (`from-bits`), settles the order (`first-of-pair`).
 -- Assumes nothing.
 use mathlib.Core.Path.{_≡_, sym, ap₂, _∙_}
 use mathlib.Core.Bool.{true, false}
@@ -6,7 +6,7 @@ use lib.Signed.{ltZ}
 use borrow.Author.Needs.{needs}
 use Rattle.restore_order.specs.Slots.{at, upperFirst}
 use Rattle.restore_rules.proofs.Numbers.{from-bits}
-use Rattle.restore_rules.proofs.Slots.{first-of-slot}
+use Rattle.restore_rules.proofs.Walk.{first-of-pair}
 use Rattle.restore_rules.proofs.first_in.Statement.{statement}
 use Rattle.restore_rules.proofs.first_in.Tie as tie
 
@@ -36,7 +36,7 @@ returns c =
     let w = a .wanted .now in
     let e : upperFirst p w (a .upper) ≡ true =
     sym (ap₂ ltZ (from-bits (at p (a .upper)) (t .before .from .given)) (from-bits (at w (a .upper)) (t .to .given))) ∙ c .before .if1 .taken in
-    c .first-of .ensures ∙ first-of-slot p w (a .upper) (a .lower) true e
+    c .first-of .ensures ∙ first-of-pair p w (a .upper) (a .lower) true e
 
 returns-2 : tie.Need-returns-2
 returns-2 c =
@@ -46,7 +46,7 @@ returns-2 c =
     let w = a .wanted .now in
     let e : upperFirst p w (a .upper) ≡ false =
     sym (ap₂ ltZ (from-bits (at p (a .upper)) (t .before .from .given)) (from-bits (at w (a .upper)) (t .to .given))) ∙ c .before .if1 .left in
-    c .first-of2 .ensures ∙ first-of-slot p w (a .upper) (a .lower) false e
+    c .first-of2 .ensures ∙ first-of-pair p w (a .upper) (a .lower) false e
 
 pub first-in-spec : {M : Type 1} → statement M
 first-in-spec =

@@ -47,9 +47,9 @@ returns-2 : tie.Need-returns-2
 unfolding jobAfter
 returns-2 c =
     let a = c .before .before .before .before .before .before .before .before .before .before .before .before .before .before .before .before .before .before .before .before .args in
-    let long : length (a .b .now) ≡ 262 = c .before .before .before .before .before .before .before .before .before .before .before .before .before .before .before .before .before .before .if1 .left in
+    let long : length (a .b .now) ≡ 402 = c .before .before .before .before .before .before .before .before .before .before .before .before .before .before .before .before .before .before .if1 .left in
     let p : length (a .t1 .present) ≡ 50 = search needs in
-    let w : length (a .t1 .wanted) ≡ 15 = search needs in
+    let w : length (a .t1 .wanted) ≡ 50 = search needs in
     let one = one-there (a .t1) (a .b .now) p w long _ (c .before .before .before .before .before .before .before .before .before .before .before .before .before .put-words .ensures .1) in
     let two = two-there (a .t1) (a .b .now) p w long _ _ one (c .before .before .before .before .before .before .put-words2 .ensures .1) in
     (rw (eq-eqb _ _ long), rw (eq-eqb _ _ long) (job-put (a .t1) (a .b .now) p w long _ _ two (c .before .before .put-phase .ensures)))

@@ -34,9 +34,9 @@ returns c =
     let start = c .before .before in
     let b = start .args .b .now in
     let bytes = phaseBytes (start .args .phase) in
-    ap (λ (l : List ℕ). sets b 260 (getD l 0 0 ∷ getD l 1 0 ∷ [])) (c .phase-bytes .ensures)
-    ∙ sets-eq bytes b 260 (omega arith)
-    ∙ ap (λ (l : List ℕ). take 260 b ++ bytes ++ l) (drop-of-length-le b {i = 262} (omega arith)) ∙ append-nil (take 260 b ++ bytes)
+    ap (λ (l : List ℕ). sets b 400 (getD l 0 0 ∷ getD l 1 0 ∷ [])) (c .phase-bytes .ensures)
+    ∙ sets-eq bytes b 400 (omega arith)
+    ∙ ap (λ (l : List ℕ). take 400 b ++ bytes ++ l) (drop-of-length-le b {i = 402} (omega arith)) ∙ append-nil (take 400 b ++ bytes)
 
 pub put-phase-spec : {M : Type 1} → statement M
 put-phase-spec =
