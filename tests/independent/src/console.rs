@@ -38,6 +38,8 @@ impl Console {
 #[cfg(test)]
 mod tests {
     use super::*;
+    use crate::examples::settable;
+    use crate::generator::restore::list;
 
     fn answer(line: &str) -> Option<String> {
         Console::default().answer(Line::Bytes(line.as_bytes()))
@@ -45,9 +47,9 @@ mod tests {
 
     #[test]
     fn the_job_lives_on_and_other_lines_leave_it_alone() {
-        let present = "3100,20,4,55,50,2,0,5,2,60,55,2,-20,-15,2".to_string() + &",0".repeat(35);
-        let wanted = "3100,20,4,70,60,2,0,5,2,60,55,2,-20,-15,2";
-        let crossed = "3100,20,4,50,50,2,0,5,2,60,55,2,-20,-15,2";
+        let opening =
+            |wanted: &[(usize, i64)]| format!("restore open {} {}", list(&settable(&[])), list(&settable(wanted)));
+        let (raised, crossed) = (opening(&[(3, 70), (4, 60)]), opening(&[(3, 50), (4, 50)]));
         let mut console = Console::default();
         for (line, expected) in [
             ("restore next 11".to_string(), "? no job"),
@@ -58,13 +60,13 @@ mod tests {
             ("restore left 0".to_string(), "? too many words"),
             ("restore".to_string(), "? too few words"),
             ("restore close".to_string(), "? unknown word"),
-            (format!("restore open {present} {crossed}"), "refused 12"),
+            (crossed.clone(), "refused 12"),
             ("restore left".to_string(), "? no job"),
-            (format!("restore open {present} {wanted}"), "ok opened"),
+            (raised, "ok opened"),
             ("restore left".to_string(), "ok left 2"),
             ("restore next 10".to_string(), "refused 11"),
             ("restore next 11".to_string(), "ok frame FE060E03460000008651FD"),
-            (format!("restore open {present} {crossed}"), "refused 12"),
+            (crossed, "refused 12"),
             ("restore open 1,x 99999999999".to_string(), "? not a number"),
             ("restore open 1,99999999999 x".to_string(), "? number out of range"),
             ("check crc 0105".to_string(), "ok crc 6394"),

@@ -10,6 +10,22 @@ pub const SETTINGS: [i32; 50] = [
     65, 2, 450, 0, 30, 1000, 1, -1500, 1, 4500, 0, 1000, 0, 229_995, 1, 1, 1, 1, 3000, 50, 10_000,
 ];
 
+/// The settings of the example pack that their registers would not take (000, "Target register definitions"), each with
+/// a value that they do: the greatest current, and for the short circuit the codes of 450 mV (note 1) and of 0 µs.
+const SETTABLE: [(usize, i64); 4] = [(21, 62), (26, 100), (31, 14), (32, 1)];
+
+/// The settings of the example pack, with some of them changed.
+pub fn pack(changes: &[(usize, i64)]) -> Vec<i64> {
+    let mut words = SETTINGS.map(i64::from);
+    changes.iter().for_each(|&(setting, word)| words[setting] = word);
+    words.to_vec()
+}
+
+/// The settings of a pack like it that a restore can bring back, with some of them changed.
+pub fn settable(changes: &[(usize, i64)]) -> Vec<i64> {
+    pack(&[&SETTABLE, changes].concat())
+}
+
 /// Reply 03: the live values.
 pub const LIVE: [i32; 53] = [
     0x14BC,

@@ -104,7 +104,7 @@ fn word(bytes: &[u8]) -> i32 {
 /// 10 mV, which is an I16; a bitfield of errors, which is a U32 and never missing; and a count of events, which is a
 /// U16 that stops at its end and is never missing (02, request 1).
 #[derive(Clone, Copy, Debug, PartialEq, Eq)]
-enum Type {
+pub enum Type {
     U8,
     I8,
     U16,
@@ -118,15 +118,16 @@ enum Type {
 }
 
 impl Type {
-    /// How many bits it has and whether it is signed.
+    /// How many bits it has and whether it is signed. A bool is 0 or 1 (02, request 2).
     fn shape(self) -> (u32, bool) {
         match self {
+            Type::Bool => (1, false),
             Type::U8 => (8, false),
             Type::I8 => (8, true),
             Type::U16 | Type::Events => (16, false),
             Type::I16 | Type::TenMillivolts => (16, true),
             Type::U32 | Type::Errors => (32, false),
-            Type::I32 | Type::Bool => (32, true),
+            Type::I32 => (32, true),
         }
     }
 
@@ -141,6 +142,14 @@ impl Type {
         match self.shape() {
             (bits, true) => (1 << (bits - 1)) - 1,
             (bits, false) => (1 << bits) - 1,
+        }
+    }
+
+    /// The number that a whole word is in this type: unsigned in a U32 (docs/CONSOLE.md), else as it came.
+    fn whole(self, word: i64) -> i64 {
+        match self {
+            Type::U32 => self.narrowed(word),
+            _ => word,
         }
     }
 
@@ -207,40 +216,83 @@ fn row(reply: u8, row: usize, word: i64) -> Result<String, Refusal> {
     })
 }
 
-/// The registers that may be written, 0 to 14, each with its least and greatest value (000, "Target register
-/// definitions"). Their types are those of the settings of the same number.
-const REGISTERS: [(i64, i64); 15] = [
-    (0, 5000),
-    (0, 255),
-    (0, 16),
-    (-40, 120),
-    (-40, 120),
-    (0, 255),
-    (-40, 120),
-    (-40, 120),
-    (0, 255),
-    (-40, 120),
-    (-40, 120),
-    (0, 255),
-    (-40, 120),
-    (-40, 120),
-    (0, 255),
+/// The registers that may be written, each with its number, its type, its least and its greatest value (000, "Target
+/// register definitions"). 47 is reserved there.
+pub const REGISTERS: [(usize, Type, i64, i64); 51] = [
+    (0, Type::I16, 0, 5000),          // Balancer Start Voltage
+    (1, Type::U8, 0, 255),            // Delta to Balance
+    (2, Type::U8, 0, 16),             // Max Cells to Balance
+    (3, Type::I8, -40, 120),          // Charge Overtemp Threshold
+    (4, Type::I8, -40, 120),          // Charge Overtemp Recovery
+    (5, Type::U8, 0, 255),            // Charge Overtemp Delay
+    (6, Type::I8, -40, 120),          // Charge Undertemp Threshold
+    (7, Type::I8, -40, 120),          // Charge Undertemp Recovery
+    (8, Type::U8, 0, 255),            // Charge Undertemp Delay
+    (9, Type::I8, -40, 120),          // Discharge Overtemp Threshold
+    (10, Type::I8, -40, 120),         // Discharge Overtemp Recovery
+    (11, Type::U8, 0, 255),           // Discharge Overtemp Delay
+    (12, Type::I8, -40, 120),         // Discharge Undertemp Threshold
+    (13, Type::I8, -40, 120),         // Discharge Undertemp Recovery
+    (14, Type::U8, 0, 255),           // Discharge Undertemp Delay
+    (15, Type::U8, 20, 110),          // Cell Overvoltage Threshold
+    (16, Type::U8, 2, 20),            // Cell Overvoltage Recovery Hysteresis
+    (17, Type::U16, 1, 2047),         // Cell Overvoltage Delay
+    (18, Type::U8, 20, 90),           // Cell Undervoltage Threshold
+    (19, Type::U8, 2, 20),            // Cell Undervoltage Recovery Hysteresis
+    (20, Type::U16, 1, 2047),         // Cell Undervoltage Delay
+    (21, Type::U8, 2, 62),            // Charge Overcurrent Threshold
+    (22, Type::U8, 1, 127),           // Charge Overcurrent Delay
+    (23, Type::I16, -32_768, 0),      // Discharge Overcurrent Threshold
+    (24, Type::U8, 0, 255),           // Discharge Overcurrent Delay
+    (25, Type::U8, 1, 255),           // Fault Recovery Time (shared)
+    (26, Type::U8, 2, 100),           // L2 Discharge Overcurrent Threshold
+    (27, Type::U8, 1, 127),           // L2 Discharge Overcurrent Delay
+    (28, Type::U8, 0, 150),           // L2 FET Overtemp Threshold
+    (29, Type::U8, 0, 150),           // L2 FET Overtemp Recovery
+    (30, Type::U8, 0, 255),           // L2 FET Overtemp Delay
+    (31, Type::U8, 0, 15),            // L3 Short Circuit Threshold
+    (32, Type::U8, 1, 31),            // L3 Short Circuit Delay
+    (33, Type::U8, 0, 255),           // L3 Short Circuit Recovery
+    (34, Type::I16, -32_768, 32_767), // PF Charge Overcurrent
+    (35, Type::U8, 0, 255),           // PF Charge Overcurrent Delay
+    (36, Type::I16, -32_768, 32_767), // PF Discharge Overcurrent
+    (37, Type::U8, 0, 255),           // PF Discharge Overcurrent Delay
+    (38, Type::I16, 0, 32_767),       // PF Cell Overvoltage Threshold
+    (39, Type::U8, 0, 255),           // PF Cell Overvoltage Delay
+    (40, Type::I16, 0, 32_767),       // PF Cell Undervoltage Threshold
+    (41, Type::U8, 0, 255),           // PF Cell Undervoltage Delay
+    (42, Type::U32, 0, 0xFFFF_FFFF),  // Design Capacity
+    (43, Type::U8, 0, 1),             // NTC1 Active
+    (44, Type::U8, 0, 1),             // NTC2 Active
+    (45, Type::U8, 0, 1),             // NTC3 Active
+    (46, Type::U8, 0, 1),             // NTC4 Active
+    (48, Type::U8, 0, 0x03),          // FET Command (bitfield)
+    (49, Type::U32, 200, 10_000),     // Pre-discharge Timeout
+    (50, Type::U8, 10, 90),           // Pre-discharge Percent
+    (51, Type::U32, 10_000, 600_000), // Pre-discharge Retry time
 ];
 
 /// Whether a value may be written to a register (refusals 10, 9).
 pub fn writable(register: usize, value: i64) -> Result<(), Refusal> {
-    let (least, most) = REGISTERS.get(register).ok_or(Refusal::Register)?;
-    if (least..=most).contains(&&value) {
+    let row = REGISTERS.iter().find(|row| row.0 == register);
+    let &(_, kind, least, most) = row.ok_or(Refusal::Register)?;
+    if (least..=most).contains(&kind.whole(value)) {
         Ok(())
     } else {
         Err(Refusal::Value)
     }
 }
 
-/// Whether a word is one of the type of a setting, 0 to 14.
-pub fn fits_setting(setting: usize, word: i64) -> bool {
+/// The least and the greatest number of the type of a setting, 0 to 49.
+pub fn limits_of_setting(setting: usize) -> (i64, i64) {
     let kind = rows(0x02)[setting];
-    (kind.least()..=kind.most()).contains(&word)
+    (kind.least(), kind.most())
+}
+
+/// Whether a word is one of the type of a setting, 0 to 49.
+pub fn fits_setting(setting: usize, word: i64) -> bool {
+    let (least, most) = limits_of_setting(setting);
+    (least..=most).contains(&rows(0x02)[setting].whole(word))
 }
 
 /// A request.
@@ -403,11 +455,109 @@ mod tests {
     #[test]
     fn refusals_of_writes() {
         assert_eq!(write(8192, Request::Set(3, 128)), Err(Refusal::Value));
-        assert_eq!(write(0, Request::Set(15, 0)), Err(Refusal::Register));
+        assert_eq!(write(0, Request::Set(47, i32::MAX.into())), Err(Refusal::Register));
         assert_eq!(write(10, Request::Set(3, 120)), Err(Refusal::Room));
         assert_eq!(write(0, Request::Ask(0x0E)), Err(Refusal::Shape));
         assert_eq!(write(0, Request::Ask(0x06)), Err(Refusal::Request));
         assert_eq!(write(5, Request::Ask(0x01)), Err(Refusal::Room));
+    }
+
+    /// 000, "Target register definitions", read once more: the registers of each range.
+    #[test]
+    fn every_register_takes_its_range_and_nothing_beyond() {
+        let ranges = [
+            (0, 5000, &[0][..]),
+            (0, 255, &[1, 5, 8, 11, 14, 24, 30, 33, 35, 37, 39, 41]),
+            (0, 16, &[2]),
+            (-40, 120, &[3, 4, 6, 7, 9, 10, 12, 13]),
+            (20, 110, &[15]),
+            (2, 20, &[16, 19]),
+            (1, 2047, &[17, 20]),
+            (20, 90, &[18]),
+            (2, 62, &[21]),
+            (1, 127, &[22, 27]),
+            (-32_768, 0, &[23]),
+            (1, 255, &[25]),
+            (2, 100, &[26]),
+            (0, 150, &[28, 29]),
+            (0, 15, &[31]),
+            (1, 31, &[32]),
+            (-32_768, 32_767, &[34, 36]),
+            (0, 32_767, &[38, 40]),
+            (0, 1, &[43, 44, 45, 46]),
+            (0, 3, &[48]),
+            (200, 10_000, &[49]),
+            (10, 90, &[50]),
+            (10_000, 600_000, &[51]),
+        ];
+        let mut known = vec![42];
+        for (least, most, registers) in ranges {
+            for &register in registers {
+                known.push(register);
+                for value in [least, most] {
+                    assert_eq!(writable(register, value), Ok(()), "{value} to register {register}");
+                }
+                for value in [least - 1, most + 1, i32::MIN.into(), i32::MAX.into()] {
+                    assert_eq!(writable(register, value), Err(Refusal::Value), "{value} to register {register}");
+                }
+            }
+        }
+        known.sort();
+        assert!(known.into_iter().eq((0..=46).chain(48..=51)));
+        for register in [47].into_iter().chain(52..=255) {
+            assert_eq!(writable(register, 0), Err(Refusal::Register), "register {register}");
+        }
+    }
+
+    #[test]
+    fn a_range_lies_within_its_type_and_that_of_its_setting() {
+        for (register, kind, least, most) in REGISTERS {
+            assert!(kind.least() <= least && least < most && most <= kind.most(), "register {register}");
+            if register <= 46 {
+                let setting = rows(0x02)[register];
+                assert!(setting.least() <= least && most <= setting.most(), "setting {register}");
+                let others = [21, 23, 26, 31, 32, 34, 36, 43, 44, 45, 46];
+                assert_eq!(kind != setting, others.contains(&register), "setting {register}");
+            }
+        }
+    }
+
+    #[test]
+    fn a_u32_is_tested_unsigned() {
+        let ends = [0, 1, i32::MAX.into(), i32::MIN.into(), -1];
+        for value in ends {
+            assert_eq!(writable(42, value), Ok(()), "{value}");
+            let setting = Request::Set(42, value);
+            assert_eq!(parse(&write(11, setting).unwrap()), Ok(setting));
+            for (register, within) in [(49, 200), (51, 10_000)] {
+                assert_eq!(writable(register, value), Err(Refusal::Value), "{value} to register {register}");
+                assert_eq!(writable(register, within - (1 << 32)), Ok(()), "the same bits");
+            }
+        }
+        let all_ones = |register| frame(WRITE, &[register, 0xFF, 0xFF, 0xFF, 0xFF]);
+        assert_eq!(parse(&all_ones(42)), Ok(Request::Set(42, -1)));
+        assert_eq!(parse(&all_ones(49)), Err(Refusal::Value));
+        assert_eq!(parse(&all_ones(47)), Err(Refusal::Register));
+    }
+
+    /// 000, "Data definitions for 0x02 Request All Settings".
+    #[test]
+    fn a_setting_fits_its_type() {
+        let words = i64::from(i32::MIN)..=i32::MAX.into();
+        for setting in 0..50 {
+            let (least, most) = match setting {
+                0 | 38 | 40 => (-32_768, 32_767),
+                3 | 4 | 6 | 7 | 9 | 10 | 12 | 13 => (-128, 127),
+                17 | 20 => (0, 65_535),
+                21 | 23 | 31 | 32 | 34 | 36 | 26 | 42 | 47 | 49 => (*words.start(), *words.end()),
+                43..=46 => (0, 1),
+                _ => (0, 255),
+            };
+            for word in [least, most, least - 1, most + 1, -1, 2].into_iter().filter(|word| words.contains(word)) {
+                let within = (least..=most).contains(&word);
+                assert_eq!(fits_setting(setting, word), within, "{word} in setting {setting}");
+            }
+        }
     }
 
     #[test]

@@ -1,16 +1,22 @@
-//! The restore of the Pathfinder settings 0 to 14 (01, "Restore").
+//! The restore of the Pathfinder settings (01, "Restore"; 02, request 2).
 
 use crate::line::{shown, NoCall, Words};
 use crate::pathfinder::{self, fits_setting, writable, Reply, Request, WRITE};
 use crate::refusal::{answer as refusable, Refusal};
 use std::collections::VecDeque;
 
-/// How many words a reading of the settings has, and how many of them are restored.
-pub const PRESENT: usize = 50;
-pub const SETTINGS: usize = 15;
+/// How many settings there are.
+pub const SETTINGS: usize = 50;
 
-/// The pairs: the first member stays strictly above the second.
-pub const PAIRS: [(usize, usize); 4] = [(3, 4), (7, 6), (9, 10), (13, 12)];
+/// The pairs: the first member stays strictly above the second. They are the thresholds and recoveries of
+/// temperatures; a cell voltage recovers by a hysteresis, a short circuit after seconds.
+pub const PAIRS: [(usize, usize); 5] = [(3, 4), (7, 6), (9, 10), (13, 12), (28, 29)];
+
+/// Whether no register has the number and the name of a setting: the registers 47 to 49 are other things (000, "Target
+/// register definitions").
+pub fn is_fixed(setting: usize) -> bool {
+    (47..=49).contains(&setting)
+}
 
 /// A restore. Which registers are still to be written, and in which order, is settled when it is opened.
 pub struct Job {
@@ -30,24 +36,30 @@ enum State {
 impl Job {
     /// Opens a restore of the wanted values on a reading of the pack.
     pub fn open(present: &[i64], wanted: &[i64]) -> Result<Job, Refusal> {
-        if present.len() != PRESENT || wanted.len() != SETTINGS {
+        if present.len() != SETTINGS || wanted.len() != SETTINGS {
             return Err(Refusal::Shape);
         }
-        let picture = &present[..SETTINGS];
-        if !(0..SETTINGS).all(|setting| fits_setting(setting, picture[setting])) {
+        if !(0..SETTINGS).all(|setting| fits_setting(setting, present[setting])) {
             return Err(Refusal::Shape);
         }
-        for (register, value) in wanted.iter().enumerate() {
-            writable(register, *value)?;
+        let (fixed, free): (Vec<usize>, Vec<usize>) = (0..SETTINGS).partition(|&setting| is_fixed(setting));
+        if fixed.into_iter().any(|setting| wanted[setting] != present[setting]) {
+            return Err(Refusal::Register);
+        }
+        for setting in free {
+            writable(setting, wanted[setting])?;
+            if !fits_setting(setting, wanted[setting]) {
+                return Err(Refusal::Value);
+            }
         }
         let crossed = |values: &[i64]| PAIRS.iter().any(|&(upper, lower)| values[upper] <= values[lower]);
         if crossed(wanted) {
             return Err(Refusal::WantedCrossed);
         }
-        if crossed(picture) {
+        if crossed(present) {
             return Err(Refusal::PresentCrossed);
         }
-        Ok(Job { picture: picture.to_vec(), wanted: wanted.to_vec(), plan: plan(picture, wanted), state: State::Ready })
+        Ok(Job { picture: present.to_vec(), wanted: wanted.to_vec(), plan: plan(present, wanted), state: State::Ready })
     }
 
     /// The next frame for the pack, or nothing if all is done.
@@ -146,20 +158,8 @@ pub fn answer(line: &Words, job: &mut Option<Job>) -> Result<String, NoCall> {
 #[cfg(test)]
 mod tests {
     use super::*;
-    use crate::examples;
-
-    /// The example pack of 000 and its settings, with some of them changed.
-    fn present(changes: &[(usize, i64)]) -> Vec<i64> {
-        let mut words: Vec<i64> = examples::SETTINGS.iter().map(|&word| word.into()).collect();
-        for (place, word) in changes {
-            words[*place] = *word;
-        }
-        words
-    }
-
-    fn wanted(changes: &[(usize, i64)]) -> Vec<i64> {
-        present(changes)[..SETTINGS].to_vec()
-    }
+    use crate::examples::{pack, settable};
+    use crate::pathfinder::limits_of_setting;
 
     /// The registers and values that an uncut restore writes.
     fn written(present: &[i64], wanted: &[i64]) -> Vec<(usize, i64)> {
@@ -181,63 +181,138 @@ mod tests {
 
     #[test]
     fn pairs_move_without_crossing() {
-        assert_eq!(written(&present(&[]), &wanted(&[(3, 70), (4, 60)])), [(3, 70), (4, 60)]);
-        assert_eq!(written(&present(&[]), &wanted(&[(3, 45), (4, 40)])), [(4, 40), (3, 45)]);
-        assert_eq!(written(&present(&[]), &wanted(&[(3, 60), (4, 40)])), [(3, 60), (4, 40)]);
-        assert_eq!(written(&present(&[]), &wanted(&[(3, 54), (4, 53)])), [(4, 53), (3, 54)]);
-        assert_eq!(written(&present(&[]), &wanted(&[(3, 55), (4, 54)])), [(4, 54)]);
-        assert_eq!(written(&present(&[]), &wanted(&[(6, 10), (7, 11)])), [(7, 11), (6, 10)]);
-        assert_eq!(written(&present(&[]), &wanted(&[(6, -9), (7, -8)])), [(6, -9), (7, -8)]);
+        for (wanted, expected) in [
+            ([(3, 70), (4, 60)], &[(3, 70), (4, 60)][..]),
+            ([(3, 45), (4, 40)], &[(4, 40), (3, 45)]),
+            ([(3, 60), (4, 40)], &[(3, 60), (4, 40)]),
+            ([(3, 54), (4, 53)], &[(4, 53), (3, 54)]),
+            ([(3, 55), (4, 54)], &[(4, 54)]),
+            ([(6, 10), (7, 11)], &[(7, 11), (6, 10)]),
+            ([(6, -9), (7, -8)], &[(6, -9), (7, -8)]),
+            ([(28, 150), (29, 149)], &[(28, 150), (29, 149)]),
+            ([(28, 64), (29, 0)], &[(29, 0), (28, 64)]),
+        ] {
+            assert_eq!(written(&settable(&[]), &settable(&wanted)), expected);
+        }
     }
 
+    #[test]
+    fn a_pair_stands_at_the_place_of_its_lower_number() {
+        let up = [(5, 0), (6, 10), (7, 11), (8, 0), (27, 1), (28, 100), (29, 99), (30, 0)];
+        assert_eq!(registers(&up), [5, 7, 6, 8, 27, 28, 29, 30]);
+        let down = [(5, 0), (6, -9), (7, -8), (8, 0), (27, 1), (28, 20), (29, 10), (30, 0)];
+        assert_eq!(registers(&down), [5, 6, 7, 8, 27, 29, 28, 30]);
+    }
+
+    fn registers(wanted: &[(usize, i64)]) -> Vec<usize> {
+        written(&settable(&[]), &settable(wanted)).into_iter().map(|(register, _)| register).collect()
+    }
+
+    /// Every pair is moved so that its higher number goes first.
     #[test]
     fn differing_settings_are_written_once_in_ascending_order() {
-        let every = [
-            (0, 0),
-            (1, 255),
-            (2, 16),
-            (3, 120),
-            (4, 119),
-            (5, 0),
-            (6, -40),
-            (7, -39),
-            (8, 255),
-            (9, -39),
-            (10, -40),
-            (11, 1),
-            (12, 100),
-            (13, 101),
-            (14, 9),
-        ];
-        let places: Vec<usize> =
-            written(&present(&[]), &wanted(&every)).into_iter().map(|(register, _)| register).collect();
-        assert_eq!(places, [0, 1, 2, 3, 4, 5, 6, 7, 8, 10, 9, 11, 13, 12, 14]);
-        assert_eq!(written(&present(&[]), &wanted(&[])), []);
+        let mut every: Vec<(usize, i64)> = (0..47).map(|setting| (setting, settable(&[])[setting] - 1)).collect();
+        for changed in
+            [(6, 1), (7, 6), (12, -19), (13, -14), (16, 3), (19, 3), (32, 2), (39, 1), (41, 1), (42, i32::MIN.into())]
+        {
+            every[changed.0] = changed;
+        }
+        let pairs = [4, 3, 5, 7, 6, 8, 10, 9, 11, 13, 12];
+        assert!(registers(&every).into_iter().eq((0..3).chain(pairs).chain(14..28).chain([29, 28]).chain(30..47)));
+        assert_eq!(registers(&[]), []);
     }
 
     #[test]
-    fn refused_openings() {
-        let refusal = |present: &[i64], wanted: &[i64]| Job::open(present, wanted).err();
-        let right = (present(&[]), wanted(&[]));
-        assert_eq!(refusal(&right.0, &right.1), None);
-        assert_eq!(refusal(&right.0[..49], &right.1), Some(Refusal::Shape));
-        assert_eq!(refusal(&right.0, &right.1[..14]), Some(Refusal::Shape));
-        assert_eq!(refusal(&[], &[]), Some(Refusal::Shape));
-        assert_eq!(refusal(&present(&[(3, 128)]), &right.1), Some(Refusal::Shape));
-        assert_eq!(refusal(&present(&[(3, 127)]), &right.1), None);
-        assert_eq!(refusal(&present(&[(1, -1)]), &right.1), Some(Refusal::Shape));
-        assert_eq!(refusal(&present(&[(15, -1)]), &right.1), None);
-        assert_eq!(refusal(&right.0, &wanted(&[(3, 121)])), Some(Refusal::Value));
-        assert_eq!(refusal(&right.0, &wanted(&[(3, 50), (4, 50)])), Some(Refusal::WantedCrossed));
-        let crossed = present(&[(12, -15)]);
-        assert_eq!(refusal(&crossed, &wanted(&[(3, 50), (4, 50)])), Some(Refusal::WantedCrossed));
-        assert_eq!(refusal(&crossed, &wanted(&[(2, 17), (4, 55)])), Some(Refusal::Value));
-        assert_eq!(refusal(&crossed, &right.1), Some(Refusal::PresentCrossed));
+    fn the_example_pack_goes_to_values_in_range_and_not_to_its_own() {
+        assert_eq!(written(&pack(&[]), &settable(&[])), [(21, 62), (26, 100), (31, 14), (32, 1)]);
+        assert_eq!(refusal(&pack(&[]), &pack(&[])), Some(Refusal::Value));
+        for place in [21, 26, 31, 32] {
+            let own = pack(&[])[place];
+            assert_eq!(refusal(&pack(&[]), &settable(&[(place, own)])), Some(Refusal::Value), "setting {place}");
+        }
+    }
+
+    fn refusal(present: &[i64], wanted: &[i64]) -> Option<Refusal> {
+        Job::open(present, wanted).err()
+    }
+
+    /// The refusal of an opening on a settable pack with some words changed, to values of which some are changed.
+    fn changed(present: &[(usize, i64)], wanted: &[(usize, i64)]) -> Option<Refusal> {
+        refusal(&settable(present), &settable(wanted))
+    }
+
+    #[test]
+    fn lists_of_another_length() {
+        let right = settable(&[]);
+        let more = settable(&[]).into_iter().chain([0]).collect::<Vec<_>>();
+        assert_eq!(refusal(&right, &right), None);
+        for wrong in [&right[..49], &right[..15], &more, &[]] {
+            assert_eq!(refusal(wrong, &right), Some(Refusal::Shape));
+            assert_eq!(refusal(&right, wrong), Some(Refusal::Shape));
+            assert_eq!(refusal(wrong, wrong), Some(Refusal::Shape));
+        }
+    }
+
+    #[test]
+    fn present_words_outside_their_types() {
+        for setting in 0..SETTINGS {
+            let (least, most) = limits_of_setting(setting);
+            for word in [least, most, least - 1, most + 1, -1, 2] {
+                let refused = changed(&[(setting, word)], &[]) == Some(Refusal::Shape);
+                assert_eq!(refused, !fits_setting(setting, word), "{word} in setting {setting}");
+            }
+        }
+        for (setting, word) in [(43, 2), (46, -1), (48, 256), (1, -1), (28, 256)] {
+            assert_eq!(changed(&[(setting, word)], &[]), Some(Refusal::Shape), "{word} in setting {setting}");
+        }
+        for (setting, word) in [(3, 127), (16, 255), (21, i32::MIN.into()), (26, -1), (42, -1), (46, 0)] {
+            assert_eq!(changed(&[(setting, word)], &[]), None, "{word} in setting {setting}");
+        }
+    }
+
+    #[test]
+    fn a_fixed_setting_stays_as_it_is_whatever_that_is() {
+        for (setting, word) in [(47, -1), (47, 0), (48, 0), (48, 255), (49, 0), (49, i32::MIN.into())] {
+            assert_eq!(changed(&[(setting, word)], &[(setting, word)]), None, "{word} in setting {setting}");
+            assert_eq!(changed(&[(setting, word)], &[]), Some(Refusal::Register), "{word} in setting {setting}");
+            assert_eq!(changed(&[], &[(setting, word)]), Some(Refusal::Register), "{word} in setting {setting}");
+        }
+        assert_eq!(changed(&[], &[(48, 256)]), Some(Refusal::Register));
+    }
+
+    /// 01, "Restore", with 10 after 8 and before 9 (02, request 2).
+    #[test]
+    fn the_first_of_several_errors_is_given() {
+        let errors = [
+            (Refusal::Shape, &[(1, 256)][..], &[][..]),
+            (Refusal::Register, &[], &[(48, 51)]),
+            (Refusal::Value, &[], &[(2, 17)]),
+            (Refusal::WantedCrossed, &[], &[(28, 65)]),
+            (Refusal::PresentCrossed, &[(12, -15)], &[]),
+        ];
+        for chosen in 0..1 << errors.len() {
+            let places = (0..errors.len()).filter(|place| chosen >> place & 1 == 1);
+            let made: Vec<_> = places.map(|place| errors[place]).collect();
+            let present: Vec<_> = made.iter().flat_map(|error| error.1).copied().collect();
+            let wanted: Vec<_> = made.iter().flat_map(|error| error.2).copied().collect();
+            assert_eq!(changed(&present, &wanted), made.first().map(|error| error.0), "{made:?}");
+        }
+    }
+
+    #[test]
+    fn no_pair_may_be_crossed_or_equal() {
+        for (upper, lower) in PAIRS {
+            for (above, below) in [(20, 20), (20, 21)] {
+                let crossed = [(upper, above), (lower, below)];
+                assert_eq!(changed(&[], &crossed), Some(Refusal::WantedCrossed), "pair {upper}, {lower}");
+                assert_eq!(changed(&crossed, &[]), Some(Refusal::PresentCrossed), "pair {upper}, {lower}");
+            }
+        }
     }
 
     #[test]
     fn steps_out_of_turn_and_failures() {
-        let mut job = Job::open(&present(&[]), &wanted(&[(0, 1), (1, 1)])).unwrap_or_else(|_| panic!("refused"));
+        let mut job = Job::open(&settable(&[]), &settable(&[(0, 1), (1, 1)])).unwrap_or_else(|_| panic!("refused"));
         let done = pathfinder::frame(WRITE, &[]);
         assert_eq!(job.reply(&[]), Err(Refusal::OutOfTurn));
         assert_eq!(job.next(10), Err(Refusal::Room));

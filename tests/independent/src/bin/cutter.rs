@@ -4,16 +4,17 @@
 //!
 //! For COUNT random openings it runs the program CONSOLE as a child and restores the pack without a cut; then with a
 //! cut after each frame in turn, with the frame lost, the reply lost, the reply seen, or a failure reported instead;
-//! then with several cuts, one after another. A new opening on a fresh reading ends each of these. It looks at every
-//! moment whether each setting has its old or its wanted value, whether each pair is strictly on its right side and
-//! whether nothing else has moved; and in the end whether every differing setting was written exactly once and the
-//! pack has the wanted values.
+//! then with several cuts, one after another. A new opening on a fresh reading ends each of these; another one brings
+//! the pack back to its first settings, or is refused where their registers do not take them. It looks at every moment
+//! whether each setting has its old or its wanted value, whether each pair is strictly on its right side and whether no
+//! fixed setting has moved; and in the end whether every differing setting was written exactly once and the pack has
+//! the wanted values.
 
 use independent::generator::random::Random;
-use independent::generator::restore::{differing, list, opening};
+use independent::generator::restore::{differing, list, may_be_wanted, opening};
 use independent::line::shown;
 use independent::pathfinder::{frame, parse, Request, WRITE};
-use independent::restore::{PAIRS, SETTINGS};
+use independent::restore::{is_fixed, PAIRS, SETTINGS};
 use std::io::{BufRead, BufReader, Write};
 use std::process::{Child, ChildStdin, ChildStdout, Command, ExitCode, Stdio};
 use std::sync::atomic::{AtomicU64, Ordering};
@@ -37,8 +38,9 @@ fn main() -> ExitCode {
     match run(&words[0], *count, *seed) {
         Ok(counts) => {
             println!(
-                "{count} openings, seed {seed}: {} restores, {} of them cut, and {} writes, all as they should be",
-                counts.restores, counts.cuts, counts.writes
+                "{count} openings, seed {seed}: {} restores, {} of them cut, {} of them back, and {} writes, \
+                 all as they should be",
+                counts.restores, counts.cuts, counts.back, counts.writes
             );
             ExitCode::SUCCESS
         }
@@ -67,6 +69,7 @@ fn watch() {
 struct Counts {
     restores: u64,
     cuts: u64,
+    back: u64,
     writes: u64,
 }
 
@@ -139,7 +142,8 @@ impl Console {
     }
 }
 
-/// A pack: the words of a reading. A known register with a value in range changes that register only.
+/// A pack: the words of a reading. A known register with a value in range changes that register only, which is the
+/// setting of its number; the registers that are no setting have nothing to do in a restore.
 #[derive(Clone)]
 struct Pack {
     words: Vec<i64>,
@@ -149,7 +153,7 @@ impl Pack {
     /// Takes a frame and gives the register that it wrote.
     fn take(&mut self, input: &[u8]) -> Outcome<usize> {
         match parse(input) {
-            Ok(Request::Set(register, value)) => {
+            Ok(Request::Set(register, value)) if register < SETTINGS && !is_fixed(register) => {
                 self.words[register] = value;
                 Ok(register)
             }
@@ -183,8 +187,8 @@ impl Case<'_> {
     /// Whether the pack is as it may be at any moment.
     fn look(&self, pack: &Pack) -> Outcome<()> {
         for (place, word) in pack.words.iter().enumerate() {
-            let allowed = *word == self.first[place] || self.wanted.get(place) == Some(word);
-            if !allowed {
+            let wanted = *word == self.wanted[place] && !is_fixed(place);
+            if !wanted && *word != self.first[place] {
                 return Err(format!("word {place} is {word}, which is neither its old nor its wanted value"));
             }
         }
@@ -199,9 +203,10 @@ impl Case<'_> {
         Ok(())
     }
 
-    /// Whether the pack has the wanted values and is otherwise as it was.
+    /// Whether the pack has the wanted values.
     fn look_at_the_end(&self, pack: &Pack) -> Outcome<()> {
-        if pack.words[..SETTINGS] != *self.wanted || pack.words[SETTINGS..] != self.first[SETTINGS..] {
+        self.look(pack)?;
+        if pack.words != self.wanted {
             return Err(format!("in the end the pack has {}", list(&pack.words)));
         }
         Ok(())
@@ -224,10 +229,10 @@ impl Bench {
             for cut in CUTS {
                 let mut pack = fresh.clone();
                 self.restore(&case, &mut pack, Some((number, cut)), random)?;
-                self.restore(&case, &mut pack, None, random)?;
+                self.either_way(&case, pack, random)?;
             }
         }
-        let mut pack = fresh.clone();
+        let mut pack = fresh;
         for _ in 0..random.below(6) {
             let left = differing(&pack.words, wanted);
             if left > 0 {
@@ -235,7 +240,20 @@ impl Bench {
                 self.restore(&case, &mut pack, Some(cut), random)?;
             }
         }
-        self.restore(&case, &mut pack, None, random)
+        self.either_way(&case, pack, random)
+    }
+
+    /// Restores a pack to the wanted values, and another one like it to the settings that it had first.
+    fn either_way(&mut self, case: &Case, mut pack: Pack, random: &mut Random) -> Outcome<()> {
+        let words = pack.words.clone();
+        self.restore(case, &mut pack, None, random)?;
+        if (0..SETTINGS).all(|setting| may_be_wanted(setting, case.first[setting])) {
+            self.counts.back += 1;
+            let back = Case { first: &words, wanted: case.first };
+            self.restore(&back, &mut Pack { words: words.clone() }, None, random)
+        } else {
+            self.console.expect(&format!("restore open {} {}", list(&words), list(case.first)), "refused 9")
+        }
     }
 
     /// One restore on a fresh reading of the pack: to its end, or cut at the frame of a number.

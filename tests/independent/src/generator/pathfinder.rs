@@ -6,7 +6,7 @@ use super::random::{Errors, Random};
 use super::{Area, Sample};
 use crate::checks::crc;
 use crate::examples;
-use crate::pathfinder::frame;
+use crate::pathfinder::{frame, REGISTERS};
 use std::ops::RangeInclusive;
 
 pub const AREA: Area = Area { name: "pf", chosen, start: || Box::new(draft) };
@@ -17,15 +17,13 @@ pub const FAILURES: [u8; 8] = [0x20, 0x21, 0x22, 0x23, 0x24, 0x26, 0x27, 0x2D];
 /// The opcodes next to those that mean something, and some others.
 const OTHERS: [u8; 14] = [0x00, 0x06, 0x0D, 0x0F, 0x11, 0x16, 0x1F, 0x25, 0x28, 0x2C, 0x2E, 0x30, 0x8E, 0xFF];
 
-/// The least and the greatest value of each register (000, "Target register definitions").
-#[rustfmt::skip]
-pub const RANGES: [(i64, i64); 15] = {
-    let (delay, degrees) = ((0, 255), (-40, 120));
-    [
-        (0, 5000), (0, 255), (0, 16), degrees, degrees, delay, degrees, degrees, delay, // 0 to 8
-        degrees, degrees, delay, degrees, degrees, delay, // 9 to 14
-    ]
-};
+/// Registers that there are not: the reserved one, and those behind the last.
+const UNKNOWN: [u8; 7] = [47, 52, 53, 64, 0x83, 0xAF, 255];
+
+/// A number as the signed word with the same 32 bits, which is how a line has it.
+pub fn as_word(number: i64) -> i64 {
+    (number as i32).into()
+}
 
 fn draft(random: &mut Random) -> Draft {
     match random.below(20) {
@@ -219,14 +217,14 @@ fn any_row(random: &mut Random) -> (u8, i64, i64) {
 
 /// A register and a value, right or with the errors 10 and 9.
 fn setting(errors: &Errors, random: &mut Random) -> (u8, i64) {
-    let register = random.below(15);
-    let (least, most) = RANGES[register];
+    let (register, _, least, most) = random.pick(&REGISTERS);
     let value = if errors.has(9) {
-        match random.below(5) {
+        match random.below(6) {
             0 => least - 1,
             1 => most + 1,
             2 => random.within(least, most) + 256,
             3 => random.within(least, most) - 65_536,
+            4 => -random.within(1, 300),
             _ => word(random),
         }
     } else {
@@ -236,8 +234,8 @@ fn setting(errors: &Errors, random: &mut Random) -> (u8, i64) {
             _ => random.within(least, most),
         }
     };
-    let register = if errors.has(10) { random.pick(&[15, 16, 48, 51, 0x83, 255]) } else { register as u8 };
-    (register, value)
+    let register = if errors.has(10) { random.pick(&UNKNOWN) } else { register as u8 };
+    (register, as_word(value))
 }
 
 /// A request, right or with some errors.
@@ -343,14 +341,24 @@ fn requests(sample: &mut Sample) {
     parse("Request 04", &frame(0x04, &[]));
     parse("The word EC FF FF FF is -20 (P12)", &set(12, -20));
     parse("Register 3 with 128: 9", &set(3, 128));
-    parse("Register 15: 10", &set(15, 0));
-    parse("Register 15 and a value out of every range: 10", &set(15, i32::MIN));
+    parse("Register 47: 10", &set(47, 0));
+    parse("Register 52: 10", &set(52, 0));
+    parse("Register 47 and a value out of every range: 10", &set(47, i32::MIN));
     parse("Register 2 goes to 16", &set(2, 16));
     parse("and not to 17", &set(2, 17));
     parse("Register 0 goes to 5000", &set(0, 5000));
     parse("and not to 5001", &set(0, 5001));
     parse("nor below 0", &set(0, -1));
     parse("A low byte that would be in range does not help", &set(3, 256 + 50));
+    parse("Register 42 takes FFFFFFFF, which is -1 in a line", &set(42, -1));
+    parse("Register 49 does not: 9", &set(49, -1));
+    for (register, _, least, most) in REGISTERS.into_iter().filter(|row| row.0 > 47) {
+        let to = |value: i64| set(register as u8, value as i32);
+        parse(&format!("Register {register} goes from {least}"), &to(least));
+        parse(&format!("to {most}"), &to(most));
+        parse("and not below: 9", &to(least - 1));
+        parse("nor above: 9", &to(most + 1));
+    }
     parse("A request that is not listed: 7", &frame(0x06, &[]));
     parse("also with data", &frame(0x11, b"Zoidberg, MD"));
     parse("A failure is no request: 7", &frame(0x24, &[]));
@@ -359,7 +367,7 @@ fn requests(sample: &mut Sample) {
     parse("with a register alone: 8", &frame(0x0E, &[3]));
     parse("with four bytes: 8", &frame(0x0E, &[3, 56, 0, 0]));
     parse("with six bytes: 8", &frame(0x0E, &[3, 56, 0, 0, 0, 0]));
-    parse("of six bytes to register 15: 8", &frame(0x0E, &[15, 56, 0, 0, 0, 0]));
+    parse("of six bytes to register 47: 8", &frame(0x0E, &[47, 56, 0, 0, 0, 0]));
     parse("No input: 1", &[]);
 }
 
@@ -525,13 +533,22 @@ fn writes(sample: &mut Sample) {
         sample.more(line);
     }
     sample.show("The least and greatest value of every register, and those beyond", "pf write 11 set 0 0");
-    for (register, (least, most)) in RANGES.iter().enumerate() {
-        for value in [least - 1, *least, *most, most + 1] {
+    for (register, _, least, most) in REGISTERS {
+        for value in [least - 1, least, most, most + 1].map(as_word) {
             sample.more(format!("pf write 11 set {register} {value}"));
         }
     }
-    sample.show("Register 15: 10, before 9 and 11", "pf write 11 set 15 0");
-    for line in ["pf write 0 set 15 2147483647", "pf write 0 set 255 -2147483648", "pf write 0 set 16 0"] {
+    sample.show("Register 42 takes every word", "pf write 11 set 42 -1");
+    sample.more("pf write 11 set 42 -2147483648");
+    sample.more("pf write 11 set 42 2147483647");
+    sample.show("but a line has it signed", "pf write 11 set 42 2147483648");
+    sample.more("pf write 11 set 42 4294967295");
+    sample.show("Register 49 with FFFFFFFF: 9", "pf write 11 set 49 -1");
+    sample.more("pf write 11 set 51 -1");
+    sample.more("pf write 11 set 49 -2147483648");
+    sample.show("Register 47: 10, before 9 and 11", "pf write 11 set 47 0");
+    sample.show("Register 52: 10, before 9 and 11", "pf write 11 set 52 0");
+    for line in ["pf write 0 set 47 2147483647", "pf write 0 set 255 -2147483648", "pf write 0 set 52 -1"] {
         sample.more(line);
     }
     sample.show("Register 3 with 128: 9, before 11", "pf write 11 set 3 128");
@@ -625,6 +642,8 @@ mod tests {
     use super::*;
     use crate::generator::generate;
     use crate::generator::tests::assert_kinds;
+    use crate::pathfinder::writable;
+    use crate::refusal::Refusal;
     use std::collections::BTreeSet;
 
     #[test]
@@ -664,6 +683,29 @@ mod tests {
         }
         let expected: Vec<&str> = expected.iter().map(String::as_str).collect();
         assert_kinds("pf", 30_000, &expected);
+    }
+
+    /// Of the registers' limits, and of the numbers next to them.
+    #[test]
+    fn the_lines_reach_every_register_and_its_limits() {
+        let mut random = Random::new(2);
+        let draw = |errors: &[u8], random: &mut Random| -> BTreeSet<(u8, i64)> {
+            (0..30_000).map(|_| setting(&Errors::of(errors), random)).collect()
+        };
+        let (right, beyond, unknown) = (draw(&[], &mut random), draw(&[9], &mut random), draw(&[10], &mut random));
+        for &(register, value) in &right {
+            assert_eq!(writable(register.into(), value), Ok(()), "{value} to register {register}");
+        }
+        for (register, _, least, most) in REGISTERS {
+            for (drawn, ends) in [(&right, [least, most]), (&beyond, [least - 1, most + 1])] {
+                for value in ends.map(as_word) {
+                    assert!(drawn.contains(&(register as u8, value)), "{value} to register {register}");
+                }
+            }
+        }
+        for (register, _) in unknown {
+            assert_eq!(writable(register.into(), 0), Err(Refusal::Register), "register {register}");
+        }
     }
 
     #[test]

@@ -1,26 +1,42 @@
-//! Restore lines (docs/CONSOLE.md; 01, "Restore"): whole dialogues with raising and lowering pairs, replies that are
-//! refused, foreign, late or lost, device failures, and every refused opening. A small model of the job tells which
-//! lines fit next.
+//! Restore lines (docs/CONSOLE.md; 01, "Restore"; 02, request 2): whole dialogues with raising and lowering pairs,
+//! replies that are refused, foreign, late or lost, device failures, and every refused opening. A small model of the
+//! job tells which lines fit next.
 
 use super::lines::Draft;
-use super::pathfinder::{framed, FAILURES, RANGES};
+use super::pathfinder::{as_word, framed, FAILURES};
 use super::random::{Errors, Random};
 use super::{Area, Drafts, Sample};
-use crate::examples::SETTINGS as SETTINGS_OF_000;
-use crate::pathfinder::frame;
-use crate::restore::{PAIRS, PRESENT, SETTINGS};
+use crate::examples::{pack, settable};
+use crate::pathfinder::{frame, limits_of_setting, writable, REGISTERS};
+use crate::restore::{is_fixed, PAIRS, SETTINGS};
 
 pub const AREA: Area = Area { name: "restore", chosen, start: || Box::new(Dialogue::Closed(6)) };
 
-/// The least and the greatest word of each setting's type.
-#[rustfmt::skip]
-const TYPES: [(i64, i64); SETTINGS] = {
-    let (byte, degrees) = ((0, 255), (-128, 127));
-    [
-        (-32_768, 32_767), byte, byte, degrees, degrees, byte, degrees, degrees, byte, // 0 to 8
-        degrees, degrees, byte, degrees, degrees, byte, // 9 to 14
-    ]
-};
+/// Numbers from a least to a greatest one.
+type Bounds = (i64, i64);
+
+/// Whether every word lies within bounds.
+fn is_every_word((least, most): Bounds) -> bool {
+    most - least == u32::MAX.into()
+}
+
+/// What a setting may be wanted to be: what its register takes, or for a fixed one what its type does.
+fn range(setting: usize) -> Bounds {
+    match REGISTERS.into_iter().find(|row| row.0 == setting) {
+        Some((_, _, least, most)) if !is_fixed(setting) => (least, most),
+        _ => limits_of_setting(setting),
+    }
+}
+
+/// The settings whose register does not take every word.
+fn ranged() -> Vec<usize> {
+    (0..SETTINGS).filter(|&setting| !is_fixed(setting) && !is_every_word(range(setting))).collect()
+}
+
+/// The settings whose type is not every word.
+fn narrow() -> Vec<usize> {
+    (0..SETTINGS).filter(|&setting| !is_every_word(limits_of_setting(setting))).collect()
+}
 
 /// What the generator knows of the job, as long as nothing unforeseen was sent: how many lines are still to come
 /// before the first opening, or how many writes are left.
@@ -51,7 +67,7 @@ impl Drafts for Dialogue {
                 13 => next(random.room(11, true), random),
                 14..=15 => Draft::of("restore left"),
                 16 => any_reply(random),
-                _ if *left > 0 && !random.one_in(4) => {
+                _ if *left > 0 && random.one_in(2) => {
                     *self = Dialogue::Waiting(*left);
                     next(11, random)
                 }
@@ -81,66 +97,73 @@ impl Drafts for Dialogue {
 
 impl Dialogue {
     fn open(&mut self, random: &mut Random) -> Draft {
-        let errors = if random.one_in(2) { random.errors(&[8, 9, 12, 15]) } else { Errors::of(&[]) };
+        let errors = if random.one_in(2) { random.errors(&OPENING) } else { Errors::of(&[]) };
         let (mut present, mut wanted) = opening(random);
-        let left = differing(&present, &wanted);
         if errors.is_empty() {
-            *self = Dialogue::Ready(left);
+            *self = Dialogue::Ready(differing(&present, &wanted));
         }
-        let pair = random.pick(&PAIRS);
-        if errors.has(15) {
-            cross(&mut present, pair, random);
-        }
-        if errors.has(12) {
-            let pair = random.pick(&[pair, PAIRS[0], PAIRS[1], PAIRS[2], PAIRS[3]]);
-            cross(&mut wanted, pair, random);
-        }
-        if errors.has(9) {
-            let setting = random.below(SETTINGS);
-            let (least, most) = RANGES[setting];
-            wanted[setting] = match random.below(4) {
-                0 => least - 1,
-                1 => most + 1,
-                2 => random.pick(&[i32::MIN.into(), i32::MAX.into()]),
-                _ => wanted[setting] + 65_536,
-            };
-        }
-        if errors.has(8) {
-            let setting = random.below(SETTINGS);
-            let (least, most) = TYPES[setting];
-            match random.below(6) {
-                0 => present[setting] = least - 1,
-                1 => present[setting] = most + 1,
-                2 => present[setting] += 256 * random.pick(&[-256, 256]),
-                3 => present.resize(random.pick(&[0, 1, 15, 49, 51, 53]), 0),
-                4 => wanted.resize(random.pick(&[0, 1, 14, 16, 50]), 0),
-                _ => std::mem::swap(&mut present, &mut wanted),
-            }
-        }
+        spoil(&mut present, &mut wanted, &errors, random);
         Draft::of("restore open").word(decorated(&present, random)).word(decorated(&wanted, random))
     }
 }
 
-/// A reading of a pack and the wanted values of its settings, neither with a crossed pair.
-pub fn opening(random: &mut Random) -> (Vec<i64>, Vec<i64>) {
-    let mut present: Vec<i64> = (0..PRESENT)
-        .map(|_| match random.below(3) {
-            0 => random.within(i32::MIN.into(), i32::MAX.into()),
-            _ => random.within(-1, 300),
-        })
-        .collect();
-    present.splice(..SETTINGS, settings(&TYPES, random));
-    if random.one_in(2) {
-        // A pack that is as it may be set.
-        present.splice(..SETTINGS, settings(&RANGES, random));
+/// The refusals of an opening, in their order (01, "Restore"; 02, request 2).
+const OPENING: [u8; 5] = [8, 10, 9, 12, 15];
+
+/// Gives an opening these errors. The first of them in the order is how it is refused.
+fn spoil(present: &mut Vec<i64>, wanted: &mut Vec<i64>, errors: &Errors, random: &mut Random) {
+    if errors.has(15) {
+        cross(present, random.pick(&PAIRS), random);
     }
-    let mut wanted = settings(&RANGES, random);
-    let kept = random.pick(&[0, 4, 10, 20, 40, 80]);
-    for _ in 0..kept {
+    if errors.has(12) {
+        cross(wanted, random.pick(&PAIRS), random);
+    }
+    if errors.has(9) {
+        let setting = random.pick(&ranged());
+        let (least, most) = range(setting);
+        wanted[setting] = match random.below(4) {
+            0 => least - 1,
+            1 => most + 1,
+            2 => random.pick(&[i32::MIN.into(), i32::MAX.into()]),
+            _ => random.within(least, most) + 65_536,
+        };
+    }
+    if errors.has(10) {
+        let setting = random.pick(&[47, 48, 49]);
+        wanted[setting] = as_word(wanted[setting] + random.pick(&[1, -1, 256, 65_536, i32::MIN.into()]));
+    }
+    if errors.has(8) {
+        let setting = random.pick(&narrow());
+        let (least, most) = limits_of_setting(setting);
+        match random.below(7) {
+            0 => present[setting] = least - 1,
+            1 => present[setting] = most + 1,
+            2 => present[setting] += random.pick(&[-65_536, 65_536]),
+            3 => present[setting] = random.pick(&[i32::MIN.into(), i32::MAX.into()]),
+            4 => present[random.pick(&[43, 44, 45, 46])] = random.pick(&[2, -1, 255, 256]),
+            5 => present.resize(random.pick(&[0, 1, 15, 47, 49, 51, 53]), 0),
+            _ => wanted.resize(random.pick(&[0, 1, 15, 47, 49, 51, 53]), 0),
+        }
+    }
+}
+
+/// A reading of a pack and the wanted values of its settings, neither with a crossed pair. Half of the packs are as
+/// they may be set, so that they can be brought back; of the others a few settings or all may be outside their ranges.
+pub fn opening(random: &mut Random) -> (Vec<i64>, Vec<i64>) {
+    let odd = random.pick(&[0, 0, SETTINGS / 10, SETTINGS]);
+    let of_present = |setting: usize, random: &mut Random| match random.below(SETTINGS) < odd {
+        true => limits_of_setting(setting),
+        false => range(setting),
+    };
+    let present = settings(of_present, random);
+    let mut wanted = settings(|setting, _| range(setting), random);
+    for setting in (0..SETTINGS).filter(|&setting| is_fixed(setting)) {
+        wanted[setting] = present[setting];
+    }
+    for _ in 0..random.pick(&[0, 10, 30, 60, 120, 240]) {
         let setting = random.below(SETTINGS);
         let before = wanted[setting];
-        let (least, most) = RANGES[setting];
-        if (least..=most).contains(&present[setting]) {
+        if may_be_wanted(setting, present[setting]) {
             wanted[setting] = present[setting];
         }
         if PAIRS.iter().any(|&pair| is_crossed(&wanted, pair)) {
@@ -150,15 +173,23 @@ pub fn opening(random: &mut Random) -> (Vec<i64>, Vec<i64>) {
     (present, wanted)
 }
 
-/// Values within their bounds, no pair crossed, and often on the bounds or next to each other.
-fn settings(bounds: &[(i64, i64); SETTINGS], random: &mut Random) -> Vec<i64> {
+/// Whether a restore may be asked to bring a setting to a word that it has had.
+pub fn may_be_wanted(setting: usize, word: i64) -> bool {
+    is_fixed(setting) || writable(setting, word).is_ok()
+}
+
+/// Words within the bounds of each setting, no pair crossed, and often on the bounds or next to each other.
+fn settings(bounds: impl Fn(usize, &mut Random) -> Bounds, random: &mut Random) -> Vec<i64> {
+    let bounds: Vec<Bounds> = (0..SETTINGS).map(|setting| bounds(setting, random)).collect();
     let mut values: Vec<i64> = bounds
         .iter()
         .map(|&(least, most)| match random.below(8) {
             0 => least,
             1 => most,
+            2 => random.within(-1, 300).clamp(least, most),
             _ => random.within(least, most),
         })
+        .map(as_word)
         .collect();
     for (upper, lower) in PAIRS {
         let (least, most) = bounds[lower];
@@ -264,24 +295,21 @@ fn chosen(sample: &mut Sample) {
     no_job(sample);
     steps(sample);
     pairs(sample);
+    the_example(sample);
+    fixed(sample);
     replies(sample);
     openings(sample);
     no_calls(sample);
 }
 
-/// The settings of the example pack of 000 with some of them changed.
-fn example(changes: &[(usize, i64)]) -> Vec<i64> {
-    let mut words: Vec<i64> = SETTINGS_OF_000.iter().map(|&word| word.into()).collect();
-    for (place, word) in changes {
-        words[*place] = *word;
-    }
-    words
+/// An opening on a pack like the example one of 000 that is as it may be set, some of its words changed, and with some
+/// wanted values other than its own.
+fn open(present: &[(usize, i64)], wanted: &[(usize, i64)]) -> String {
+    lists(&settable(present), &settable(wanted))
 }
 
-/// An opening on the example pack with some of its words changed, and with some wanted values other than its own.
-fn open(present: &[(usize, i64)], wanted: &[(usize, i64)]) -> String {
-    let wanted = &example(wanted)[..SETTINGS];
-    format!("restore open {} {}", list(&example(present)), list(wanted))
+fn lists(present: &[i64], wanted: &[i64]) -> String {
+    format!("restore open {} {}", list(present), list(wanted))
 }
 
 fn no_job(sample: &mut Sample) {
@@ -298,7 +326,7 @@ fn no_job(sample: &mut Sample) {
 }
 
 fn steps(sample: &mut Sample) {
-    sample.show("The example pack of 000 as it is wanted: done at once, and again", open(&[], &[]));
+    sample.show("A pack that is as it is wanted: done at once, and again", open(&[], &[]));
     for line in ["restore left", "restore next 0", "restore next 11", WRITTEN, "restore left"] {
         sample.more(line);
     }
@@ -319,24 +347,8 @@ fn steps(sample: &mut Sample) {
     ] {
         sample.more(line);
     }
-    let every = [
-        (0, 0),
-        (1, 255),
-        (2, 16),
-        (3, 120),
-        (4, 119),
-        (5, 0),
-        (6, -40),
-        (7, -39),
-        (8, 255),
-        (9, -39),
-        (10, -40),
-        (11, 1),
-        (12, 100),
-        (13, 101),
-        (14, 9),
-    ];
-    uncut(sample, "Every setting differs", &every);
+    let every = every();
+    uncut(sample, "All 47 settings that may be written differ", &every);
     sample.show("An opening in between begins anew", open(&[], &every));
     sample.more("restore next 11");
     sample.more(open(&[], &[(14, 3)]));
@@ -347,19 +359,50 @@ fn steps(sample: &mut Sample) {
     for line in ["restore left", "restore next 11", WRITTEN, "restore left", "restore next 11"] {
         sample.more(line);
     }
-    sample
-        .show("Words 15 to 49 are not looked at", open(&[(15, -1), (20, i32::MIN.into()), (49, i32::MAX.into())], &[]));
-    sample.more("restore next 11");
     sample.show("A present temperature may be beyond its range", open(&[(3, 127), (4, 126)], &[]));
     for line in ["restore left", "restore next 11", WRITTEN, "restore next 11", WRITTEN, "restore next 11"] {
         sample.more(line);
     }
 }
 
-/// A whole restore of the example pack to these values.
+/// A wanted value other than its own for every setting of the pack that may be written: the greatest one, or the least.
+/// In every pair the higher number goes first.
+fn every() -> Vec<(usize, i64)> {
+    let own = settable(&[]);
+    let mut every: Vec<(usize, i64)> = Vec::new();
+    for setting in (0..SETTINGS).filter(|&setting| !is_fixed(setting)) {
+        let (least, most) = range(setting);
+        every.push((setting, as_word(if as_word(most) == own[setting] { least } else { most })));
+    }
+    for (upper, lower) in PAIRS {
+        let (least, most) = range(upper);
+        (every[upper].1, every[lower].1) = if upper > lower { (most, most - 1) } else { (least + 1, least) };
+    }
+    every
+}
+
+/// Every setting at one end of its bounds, the members of a pair next to each other.
+fn ends(bounds: fn(usize) -> Bounds, greatest: bool) -> Vec<i64> {
+    let end = |(least, most)| as_word(if greatest { most } else { least });
+    let mut values: Vec<i64> = (0..SETTINGS).map(bounds).map(end).collect();
+    for (upper, lower) in PAIRS {
+        if greatest {
+            values[lower] -= 1;
+        } else {
+            values[upper] += 1;
+        }
+    }
+    values
+}
+
+/// A whole restore of the pack to these values.
 fn uncut(sample: &mut Sample, comment: &str, wanted: &[(usize, i64)]) {
-    sample.show(comment, open(&[], wanted));
-    for _ in 0..differing(&example(&[]), &example(wanted)) {
+    whole(sample, comment, &settable(&[]), &settable(wanted));
+}
+
+fn whole(sample: &mut Sample, comment: &str, present: &[i64], wanted: &[i64]) {
+    sample.show(comment, lists(present, wanted));
+    for _ in 0..differing(present, wanted) {
         sample.more("restore left");
         sample.more("restore next 11");
         sample.more(WRITTEN);
@@ -384,14 +427,47 @@ fn pairs(sample: &mut Sample) {
         ("Lowering them", [(9, 54), (10, -40)]),
         ("Raising 13 above 12", [(12, 0), (13, 120)]),
         ("Lowering them", [(12, -40), (13, -39)]),
+        ("Raising 80, 65 to 150, 149 writes 28 then 29", [(28, 150), (29, 149)]),
+        ("Lowering 80, 65 to 65, 0 writes 29 then 28", [(28, 65), (29, 0)]),
+        ("Raising 29 to where 28 was", [(28, 81), (29, 80)]),
     ] {
         uncut(sample, comment, &wanted);
     }
     uncut(
         sample,
-        "All pairs at once, two up and two down",
-        &[(3, 119), (4, 118), (6, -40), (7, -39), (9, -38), (10, -39), (12, 119), (13, 120)],
+        "All pairs at once, three up and two down",
+        &[(3, 119), (4, 118), (6, -40), (7, -39), (9, -38), (10, -39), (12, 119), (13, 120), (28, 100), (29, 90)],
     );
+    uncut(
+        sample,
+        "A pair stands at the place of its lower number, so 5, 7, 6, 8, 27, 29, 28, 30",
+        &[(5, 0), (6, 10), (7, 11), (8, 0), (27, 1), (28, 20), (29, 10), (30, 0)],
+    );
+}
+
+fn the_example(sample: &mut Sample) {
+    whole(sample, "The example pack of 000 goes to values in range", &pack(&[]), &settable(&[]));
+    sample.show("and not to its own settings 21, 26, 31 and 32: 9", lists(&pack(&[]), &pack(&[])));
+    for setting in [21, 26, 31, 32] {
+        sample.more(lists(&pack(&[]), &settable(&[(setting, pack(&[])[setting])])));
+    }
+}
+
+fn fixed(sample: &mut Sample) {
+    sample.show("A fixed setting that differs: 10", open(&[], &[(47, 3001)]));
+    for (setting, word) in [(47, -1), (48, 51), (48, 256), (48, 3), (49, 9999), (49, 200), (49, i32::MIN.into())] {
+        sample.more(open(&[], &[(setting, word)]));
+    }
+    sample.show("also if its present word is another: 10", open(&[(48, 51)], &[]));
+    let odd = [(47, -1), (48, 255), (49, 0)];
+    sample.show("One that stays as it is may hold what no register takes", open(&odd, &odd));
+    for line in ["restore left", "restore next 11"] {
+        sample.more(line);
+    }
+    sample.show("It is never written", open(&odd, &[&odd[..], &[(46, 0)]].concat()));
+    for line in ["restore left", "restore next 11", WRITTEN, "restore left", "restore next 11"] {
+        sample.more(line);
+    }
 }
 
 fn replies(sample: &mut Sample) {
@@ -429,29 +505,44 @@ fn replies(sample: &mut Sample) {
 }
 
 fn openings(sample: &mut Sample) {
-    let lists = |present: &[i64], wanted: &[i64]| format!("restore open {} {}", list(present), list(wanted));
-    let (words, values) = (example(&[]), example(&[])[..SETTINGS].to_vec());
-    sample.show("Not 50 present words: 8", lists(&words[..49], &values));
-    sample.more(lists(&[&words[..], &[0]].concat(), &values));
-    sample.more(lists(&[], &values));
-    sample.show("Not 15 wanted values: 8", lists(&words, &values[..14]));
-    sample.more(lists(&words, &words[..16]));
-    sample.more(lists(&words, &[]));
-    sample.more(lists(&words, &words));
+    let right = settable(&[]);
+    let more = [&right[..], &[0]].concat();
+    sample.show("Not 50 present words: 8", lists(&right[..49], &right));
+    sample.more(lists(&more, &right));
+    sample.more(lists(&[], &right));
+    sample.show("Not 50 wanted values: 8", lists(&right, &right[..49]));
+    for wrong in [&more[..], &right[..15], &right[..47], &[]] {
+        sample.more(lists(&right, wrong));
+    }
     sample.more("restore open - -");
     sample.show("A list is as long as its line lets it be: 8", format!("restore open {} -", list(&[7; 8000])));
     sample.more(format!("restore open {} {}", list(&[0; 4000]), list(&[1; 4000])));
+    sample.show("A bool of 2: 8", open(&[(43, 2)], &[]));
     sample.show("A present word outside its type: 8", open(&[(0, 32_768)], &[]));
-    for (setting, (least, most)) in TYPES.iter().enumerate() {
+    for setting in narrow() {
+        let (least, most) = limits_of_setting(setting);
         sample.more(open(&[(setting, least - 1)], &[]));
         sample.more(open(&[(setting, most + 1)], &[]));
     }
+    for (comment, greatest) in
+        [("Every setting from the least of its type to the least of its range", false), ("and at the greatest", true)]
+    {
+        sample.show(comment, lists(&ends(limits_of_setting, greatest), &ends(range, greatest)));
+        sample.more("restore left");
+    }
+    sample.show("Every word is one of an I32 and of a U32", open(&[(21, i32::MIN.into()), (23, i32::MAX.into())], &[]));
+    sample.more(open(&[(26, -1), (42, i32::MIN.into())], &[(42, -1)]));
+    for line in ["restore left", "restore next 11", WRITTEN, "restore next 11", WRITTEN, "restore next 11"] {
+        sample.more(line);
+    }
     sample.show("A wanted value outside its range: 9", open(&[], &[(0, 5001)]));
-    for (setting, (least, most)) in RANGES.iter().enumerate() {
+    for setting in ranged() {
+        let (least, most) = range(setting);
         sample.more(open(&[], &[(setting, least - 1)]));
         sample.more(open(&[], &[(setting, most + 1)]));
     }
     sample.show("or its type: 9", open(&[], &[(3, 128)]));
+    sample.more(open(&[], &[(26, -1)]));
     sample.show("Wanted 50, 50 for 3 and 4: 12", open(&[], &[(3, 50), (4, 50)]));
     sample.show("Every wanted pair crossed or equal: 12", open(&[], &[(3, 49)]));
     for (upper, lower) in PAIRS {
@@ -463,13 +554,22 @@ fn openings(sample: &mut Sample) {
         sample.more(open(&[(upper, 20), (lower, 20)], &[]));
         sample.more(open(&[(upper, 20), (lower, 21)], &[]));
     }
-    sample.show("Two and more errors: 8 before 9", open(&[(3, 128)], &[(2, 17)]));
-    sample.show("8 before 12", open(&[(3, 128)], &[(3, 50)]));
-    sample.show("8 before 15", open(&[(3, 50), (1, 256)], &[]));
-    sample.show("9 before 12", open(&[], &[(2, 17), (3, 50)]));
-    sample.show("9 before 15", open(&[(3, 50)], &[(2, 17)]));
-    sample.show("12 before 15", open(&[(3, 50)], &[(3, 50)]));
-    sample.show("8 before all", open(&[(3, 50), (1, 256)], &[(2, 17), (3, 50)]));
+    for (comment, present, wanted) in [
+        ("Errors 8 and 10: 8", &[(3, 128)][..], &[(47, 0)][..]),
+        ("8 and 9: 8", &[(3, 128)], &[(2, 17)]),
+        ("8 and 12: 8", &[(3, 128)], &[(3, 50)]),
+        ("8 and 15: 8", &[(3, 50), (1, 256)], &[]),
+        ("10 and 9: 10", &[], &[(2, 17), (48, 51)]),
+        ("10 and 12: 10", &[], &[(3, 50), (48, 51)]),
+        ("10 and 15: 10", &[(3, 50)], &[(48, 51)]),
+        ("9 and 12: 9", &[], &[(2, 17), (3, 50)]),
+        ("9 and 15: 9", &[(3, 50)], &[(2, 17)]),
+        ("12 and 15: 12", &[(3, 50)], &[(3, 50)]),
+        ("All but 8: 10", &[(3, 50)], &[(2, 17), (3, 50), (48, 51)]),
+        ("All of them: 8", &[(3, 50), (1, 256)], &[(2, 17), (3, 50), (48, 51)]),
+    ] {
+        sample.show(comment, open(present, wanted));
+    }
 }
 
 fn no_calls(sample: &mut Sample) {
@@ -511,7 +611,10 @@ fn no_calls(sample: &mut Sample) {
 
 #[cfg(test)]
 mod tests {
+    use super::*;
     use crate::generator::tests::assert_kinds;
+    use crate::restore::Job;
+    use std::collections::BTreeSet;
 
     #[test]
     fn the_lines_reach_every_answer() {
@@ -533,12 +636,47 @@ mod tests {
         ]
         .map(String::from)
         .to_vec();
-        for (call, refusals) in
-            [("open", &[8, 9, 12, 15][..]), ("next", &[11, 14]), ("reply", &[14, 1, 2, 4, 3, 5, 7, 8])]
-        {
+        for (call, refusals) in [("open", &OPENING[..]), ("next", &[11, 14]), ("reply", &[14, 1, 2, 4, 3, 5, 7, 8])] {
             expected.extend(refusals.iter().map(|n| format!("restore {call}: refused {n}")));
         }
         let expected: Vec<&str> = expected.iter().map(String::as_str).collect();
         assert_kinds("restore", 60_000, &expected);
+    }
+
+    #[test]
+    fn openings_move_every_setting_and_every_pair_both_ways() {
+        let mut random = Random::new(2);
+        let (mut moved, mut pairs, mut back, mut beyond) = (BTreeSet::new(), BTreeSet::new(), 0, BTreeSet::new());
+        for _ in 0..400 {
+            let (present, wanted) = opening(&mut random);
+            assert!(Job::open(&present, &wanted).is_ok());
+            back += usize::from(Job::open(&wanted, &present).is_ok());
+            moved.extend((0..SETTINGS).filter(|&setting| present[setting] != wanted[setting]));
+            beyond.extend((0..SETTINGS).filter(|&setting| !may_be_wanted(setting, present[setting])));
+            for (upper, lower) in PAIRS {
+                let up = [upper, lower].map(|member| wanted[member].cmp(&present[member]));
+                pairs.insert((upper, up));
+            }
+        }
+        assert!(moved.into_iter().eq(0..47));
+        assert_eq!(pairs.len(), 9 * PAIRS.len(), "each member up, down or left");
+        assert!((150..300).contains(&back), "{back} of 400 can be brought back");
+        let ranges_narrower_than_types = (0..47).filter(|&setting| range(setting) != limits_of_setting(setting));
+        assert!(beyond.into_iter().eq(ranges_narrower_than_types));
+    }
+
+    #[test]
+    fn a_spoilt_opening_is_refused_by_the_first_of_its_errors() {
+        let mut random = Random::new(2);
+        for chosen in 0..1 << OPENING.len() {
+            let errors: Vec<u8> =
+                (0..OPENING.len()).filter(|place| chosen >> place & 1 == 1).map(|place| OPENING[place]).collect();
+            for _ in 0..100 {
+                let (mut present, mut wanted) = opening(&mut random);
+                spoil(&mut present, &mut wanted, &Errors::of(&errors), &mut random);
+                let refusal = Job::open(&present, &wanted).err().map(|refusal| refusal as u8);
+                assert_eq!(refusal, errors.first().copied(), "{errors:?}: {present:?} {wanted:?}");
+            }
+        }
     }
 }
