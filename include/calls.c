@@ -53,8 +53,12 @@ static void pathfinder(void) {
     FRESH(out);
     CHECK(tracksaffron_pf_write(3, 56, out, 10) == TRACKSAFFRON_REFUSED_ROOM);
     CHECK(tracksaffron_pf_write(3, 128, out, 0) == TRACKSAFFRON_REFUSED_RANGE);
-    CHECK(tracksaffron_pf_write(15, 0, out, sizeof out) == TRACKSAFFRON_REFUSED_REGISTER);
+    CHECK(tracksaffron_pf_write(47, 0, out, sizeof out) == TRACKSAFFRON_REFUSED_REGISTER);
+    CHECK(tracksaffron_pf_write(52, 0, out, sizeof out) == TRACKSAFFRON_REFUSED_REGISTER);
+    CHECK(tracksaffron_pf_write(49, -1, out, sizeof out) == TRACKSAFFRON_REFUSED_RANGE);
     CHECK(untouched(out, sizeof out));
+    CHECK(tracksaffron_pf_write(42, -1, out, sizeof out) == ANSWER(TRACKSAFFRON_FRAME, 11) && out[3] == 42 && out[7] == 0xFF);
+    CHECK(tracksaffron_pf_parse(out, 11, row, 2) == ANSWER(TRACKSAFFRON_PF_SET, 2) && row[0] == 42 && row[1] == -1);
 
     CHECK(tracksaffron_pf_ask(5, out, sizeof out) == ANSWER(TRACKSAFFRON_FRAME, 6));
     CHECK(memcmp(out, "\xFE\x01\x05\x63\x94\xFD", 6) == 0);
@@ -287,7 +291,12 @@ static void old58(void) {
 static void restore(void) {
     uint8_t job[TRACKSAFFRON_JOB_BYTES], kept[TRACKSAFFRON_JOB_BYTES], out[16];
     uint8_t reply[6] = {0xFE, 0x01, 0x0E, 0, 0, 0xFD};
-    int32_t present[TRACKSAFFRON_PRESENT_WORDS] = {1000, 10, 4, 55, 50, 5, 0, 40, 5, 50, 0, 5, 0, 40, 5}, wanted[TRACKSAFFRON_WANTED_VALUES];
+    /* The example pack of 000, but for 21, 26, 31 and 32, which are in range here. */
+    int32_t present[TRACKSAFFRON_PRESENT_WORDS] = {
+        3100, 20, 4, 55, 50, 2, 0, 5, 2, 60, 55, 2, -20, -15, 2, 72, 2, 301, 49, 2, 301, 62, 88, -170, 2,
+        15, 100, 88, 80, 65, 2, 14, 1, 30, 1000, 1, -1500, 1, 4500, 0, 1000, 0, 229995, 1, 1, 1, 1, 3000, 50, 10000,
+    };
+    int32_t wanted[TRACKSAFFRON_WANTED_VALUES];
 
     /* P11: 55, 50 to 45, 40 writes 4, then 3. */
     memcpy(wanted, present, sizeof wanted);
@@ -299,53 +308,78 @@ static void restore(void) {
 
     FRESH(job);
     FRESH(out);
-    CHECK(tracksaffron_restore_open(present, 50, wanted, 15, job, 261) == TRACKSAFFRON_REFUSED_SHAPE);
-    CHECK(tracksaffron_restore_open(present, 49, wanted, 15, job, 262) == TRACKSAFFRON_REFUSED_SHAPE);
-    CHECK(tracksaffron_restore_next(job, 262, out, sizeof out) == TRACKSAFFRON_REFUSED_SHAPE);
+    CHECK(tracksaffron_restore_open(present, 50, wanted, 50, job, sizeof job - 1) == TRACKSAFFRON_REFUSED_SHAPE);
+    CHECK(tracksaffron_restore_open(present, 49, wanted, 50, job, sizeof job) == TRACKSAFFRON_REFUSED_SHAPE);
+    CHECK(tracksaffron_restore_open(present, 50, wanted, 49, job, sizeof job) == TRACKSAFFRON_REFUSED_SHAPE);
+    CHECK(tracksaffron_restore_next(job, sizeof job, out, sizeof out) == TRACKSAFFRON_REFUSED_SHAPE);
     CHECK(tracksaffron_restore_next(job, 0, out, 0) == TRACKSAFFRON_REFUSED_SHAPE);
-    CHECK(tracksaffron_restore_reply(job, 262, reply, 6) == TRACKSAFFRON_REFUSED_SHAPE);
-    CHECK(tracksaffron_restore_left(job, 262) == TRACKSAFFRON_REFUSED_SHAPE);
+    CHECK(tracksaffron_restore_reply(job, sizeof job, reply, 6) == TRACKSAFFRON_REFUSED_SHAPE);
+    CHECK(tracksaffron_restore_left(job, sizeof job) == TRACKSAFFRON_REFUSED_SHAPE);
     CHECK(untouched(job, sizeof job) && untouched(out, sizeof out));
 
-    CHECK(tracksaffron_restore_open(present, 50, wanted, 15, job, 262) == ANSWER(TRACKSAFFRON_RESTORE_OPENED, 0));
-    CHECK(tracksaffron_restore_left(job, 262) == ANSWER(TRACKSAFFRON_RESTORE_LEFT, 2));
+    CHECK(tracksaffron_restore_open(present, 50, wanted, 50, job, sizeof job) == ANSWER(TRACKSAFFRON_RESTORE_OPENED, 0));
+    CHECK(tracksaffron_restore_left(job, sizeof job) == ANSWER(TRACKSAFFRON_RESTORE_LEFT, 2));
     memcpy(kept, job, sizeof job);
-    CHECK(tracksaffron_restore_reply(job, 262, reply, 6) == TRACKSAFFRON_REFUSED_TURN);
-    CHECK(tracksaffron_restore_next(job, 262, out, 10) == TRACKSAFFRON_REFUSED_ROOM);
+    CHECK(tracksaffron_restore_reply(job, sizeof job, reply, 6) == TRACKSAFFRON_REFUSED_TURN);
+    CHECK(tracksaffron_restore_next(job, sizeof job, out, 10) == TRACKSAFFRON_REFUSED_ROOM);
     CHECK(memcmp(job, kept, sizeof job) == 0 && untouched(out, sizeof out));
-    CHECK(tracksaffron_restore_next(job, 262, out, sizeof out) == ANSWER(TRACKSAFFRON_RESTORE_FRAME, 11) && out[3] == 4 && out[4] == 40);
-    CHECK(tracksaffron_restore_next(job, 262, out, sizeof out) == TRACKSAFFRON_REFUSED_TURN);
-    /* A job that waits for a register that is not its first write: one that differs too, one that does not, none of the 15, none of the 50. */
-    for (const uint8_t *other = (const uint8_t *)"\x03\x00\x0F\x32\xFF", *end = other + 5; other < end; other++) {
-        job[261] = *other;
+    CHECK(tracksaffron_restore_next(job, sizeof job, out, sizeof out) == ANSWER(TRACKSAFFRON_RESTORE_FRAME, 11) && out[3] == 4 && out[4] == 40);
+    CHECK(tracksaffron_restore_next(job, sizeof job, out, sizeof out) == TRACKSAFFRON_REFUSED_TURN);
+    /* A job that waits for a register that is not its first write: one that differs too, one that does not, fixed ones, none of the 50. */
+    for (const uint8_t *other = (const uint8_t *)"\x03\x00\x2F\x31\x32\xFF", *end = other + 6; other < end; other++) {
+        job[401] = *other;
         memcpy(kept, job, sizeof job);
         FRESH(out);
-        CHECK(tracksaffron_restore_next(job, 262, out, sizeof out) == TRACKSAFFRON_REFUSED_SHAPE);
-        CHECK(tracksaffron_restore_reply(job, 262, reply, 6) == TRACKSAFFRON_REFUSED_SHAPE);
-        CHECK(tracksaffron_restore_left(job, 262) == TRACKSAFFRON_REFUSED_SHAPE);
+        CHECK(tracksaffron_restore_next(job, sizeof job, out, sizeof out) == TRACKSAFFRON_REFUSED_SHAPE);
+        CHECK(tracksaffron_restore_reply(job, sizeof job, reply, 6) == TRACKSAFFRON_REFUSED_SHAPE);
+        CHECK(tracksaffron_restore_left(job, sizeof job) == TRACKSAFFRON_REFUSED_SHAPE);
         CHECK(memcmp(job, kept, sizeof job) == 0 && untouched(out, sizeof out));
     }
-    job[261] = 4;
-    CHECK(tracksaffron_restore_reply(job, 262, reply, 5) == TRACKSAFFRON_REFUSED_SHORT);
-    CHECK(tracksaffron_restore_reply(job, 262, reply, 6) == ANSWER(TRACKSAFFRON_RESTORE_WRITTEN, 0));
-    CHECK(tracksaffron_restore_next(job, 262, out, sizeof out) == ANSWER(TRACKSAFFRON_RESTORE_FRAME, 11) && out[3] == 3 && out[4] == 45);
-    CHECK(tracksaffron_restore_reply(job, 262, reply, 6) == ANSWER(TRACKSAFFRON_RESTORE_WRITTEN, 0));
-    CHECK(tracksaffron_restore_next(job, 262, out, sizeof out) == ANSWER(TRACKSAFFRON_RESTORE_DONE, 0));
-    CHECK(tracksaffron_restore_left(job, 262) == ANSWER(TRACKSAFFRON_RESTORE_LEFT, 0));
+    job[401] = 4;
+    CHECK(tracksaffron_restore_reply(job, sizeof job, reply, 5) == TRACKSAFFRON_REFUSED_SHORT);
+    CHECK(tracksaffron_restore_reply(job, sizeof job, reply, 6) == ANSWER(TRACKSAFFRON_RESTORE_WRITTEN, 0));
+    CHECK(tracksaffron_restore_next(job, sizeof job, out, sizeof out) == ANSWER(TRACKSAFFRON_RESTORE_FRAME, 11) && out[3] == 3 && out[4] == 45);
+    CHECK(tracksaffron_restore_reply(job, sizeof job, reply, 6) == ANSWER(TRACKSAFFRON_RESTORE_WRITTEN, 0));
+    CHECK(tracksaffron_restore_next(job, sizeof job, out, sizeof out) == ANSWER(TRACKSAFFRON_RESTORE_DONE, 0));
+    CHECK(tracksaffron_restore_left(job, sizeof job) == ANSWER(TRACKSAFFRON_RESTORE_LEFT, 0));
     wanted[3] = 40;
     memcpy(kept, job, sizeof job);
-    CHECK(tracksaffron_restore_open(present, 50, wanted, 15, job, 262) == TRACKSAFFRON_REFUSED_WANTED_PAIR);
+    CHECK(tracksaffron_restore_open(present, 50, wanted, 50, job, sizeof job) == TRACKSAFFRON_REFUSED_WANTED_PAIR);
     wanted[3] = 45;
     present[4] = 55;
-    CHECK(tracksaffron_restore_open(present, 50, wanted, 15, job, 262) == TRACKSAFFRON_REFUSED_PRESENT_PAIR);
+    CHECK(tracksaffron_restore_open(present, 50, wanted, 50, job, sizeof job) == TRACKSAFFRON_REFUSED_PRESENT_PAIR);
+    present[4] = 50;
+
+    /* A fixed setting that is wanted otherwise, which comes before a range; a bool of 2. */
+    wanted[2] = 17;
+    CHECK(tracksaffron_restore_open(present, 50, wanted, 50, job, sizeof job) == TRACKSAFFRON_REFUSED_RANGE);
+    wanted[48] = 51;
+    CHECK(tracksaffron_restore_open(present, 50, wanted, 50, job, sizeof job) == TRACKSAFFRON_REFUSED_REGISTER);
+    present[43] = 2;
+    CHECK(tracksaffron_restore_open(present, 50, wanted, 50, job, sizeof job) == TRACKSAFFRON_REFUSED_SHAPE);
     CHECK(memcmp(job, kept, sizeof job) == 0);
+    wanted[2] = present[2];
+    wanted[48] = present[48];
+    present[43] = 1;
+
+    /* The pair 28 and 29, lowered; a design capacity beyond 31 bits. */
+    wanted[28] = 60;
+    wanted[29] = 50;
+    wanted[42] = -1;
+    CHECK(tracksaffron_restore_open(present, 50, wanted, 50, job, sizeof job) == ANSWER(TRACKSAFFRON_RESTORE_OPENED, 0));
+    CHECK(tracksaffron_restore_left(job, sizeof job) == ANSWER(TRACKSAFFRON_RESTORE_LEFT, 5));
+    for (const uint8_t *written = (const uint8_t *)"\x04\x03\x1D\x1C\x2A", *end = written + 5; written < end; written++) {
+        CHECK(tracksaffron_restore_next(job, sizeof job, out, sizeof out) == ANSWER(TRACKSAFFRON_RESTORE_FRAME, 11) && out[3] == *written);
+        CHECK(tracksaffron_restore_reply(job, sizeof job, reply, 6) == ANSWER(TRACKSAFFRON_RESTORE_WRITTEN, 0));
+    }
+    CHECK(memcmp(out + 4, "\xFF\xFF\xFF\xFF", 4) == 0);
+    CHECK(tracksaffron_restore_next(job, sizeof job, out, sizeof out) == ANSWER(TRACKSAFFRON_RESTORE_DONE, 0));
 
     /* A device failure stops the job. */
-    present[4] = 50;
-    CHECK(tracksaffron_restore_open(present, 50, wanted, 15, job, 262) == ANSWER(TRACKSAFFRON_RESTORE_OPENED, 0));
-    CHECK(tracksaffron_restore_next(job, 262, out, sizeof out) == ANSWER(TRACKSAFFRON_RESTORE_FRAME, 11));
-    CHECK(tracksaffron_restore_reply(job, 262, (const uint8_t *)"\xFE\x01\x24\x57\xD7\xFD", 6) == ANSWER(TRACKSAFFRON_RESTORE_FAILURE, 0x24));
-    CHECK(tracksaffron_restore_next(job, 262, out, sizeof out) == TRACKSAFFRON_REFUSED_TURN);
+    CHECK(tracksaffron_restore_open(present, 50, wanted, 50, job, sizeof job) == ANSWER(TRACKSAFFRON_RESTORE_OPENED, 0));
+    CHECK(tracksaffron_restore_next(job, sizeof job, out, sizeof out) == ANSWER(TRACKSAFFRON_RESTORE_FRAME, 11));
+    CHECK(tracksaffron_restore_reply(job, sizeof job, (const uint8_t *)"\xFE\x01\x24\x57\xD7\xFD", 6) == ANSWER(TRACKSAFFRON_RESTORE_FAILURE, 0x24));
+    CHECK(tracksaffron_restore_next(job, sizeof job, out, sizeof out) == TRACKSAFFRON_REFUSED_TURN);
 }
 
 /* Null with length 0, for all that a call is lent. */

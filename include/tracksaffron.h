@@ -94,6 +94,7 @@ int32_t tracksaffron_pf_millivolts(int16_t tens);
 /* Requests. Kind TRACKSAFFRON_FRAME: a frame of so many bytes stands at the front of out. */
 #define TRACKSAFFRON_FRAME 1
 uint64_t tracksaffron_pf_ask(uint8_t opcode, uint8_t *out, size_t room);
+/* Registers 0 to 46 and 48 to 51, in their ranges (docs/RANGES.md); a value of 32 bits without sign is the one with the same bits. */
 uint64_t tracksaffron_pf_write(uint8_t target, int32_t value, uint8_t *out, size_t room);
 
 /* The request that the bytes are. */
@@ -257,16 +258,18 @@ uint64_t tracksaffron_old_read(const uint8_t *s, size_t len, int32_t *row, size_
 #define TRACKSAFFRON_OLD_VBYPASS_COUNT 31
 #define TRACKSAFFRON_OLD_NUMBERS 32
 
-/* ---- the restore of Pathfinder settings 0 to 14
+/* ---- the restore of Pathfinder settings
  *
  * The job lives in TRACKSAFFRON_JOB_BYTES bytes of the caller's. Bytes of another length are refused with 8 before all else; so are, but for
- * open, bytes whose phase (byte 260) is none of 0 ready, 1 waiting and 2 stopped, and those of a job that waits for a register (byte 261) other than
+ * open, bytes whose phase (byte 400) is none of 0 ready, 1 waiting and 2 stopped, and those of a job that waits for a register (byte 401) other than
  * the one that it writes first. */
 
-#define TRACKSAFFRON_JOB_BYTES 262
+#define TRACKSAFFRON_JOB_BYTES 402
 #define TRACKSAFFRON_PRESENT_WORDS 50
-#define TRACKSAFFRON_WANTED_VALUES 15
+#define TRACKSAFFRON_WANTED_VALUES 50
 
+/* The words of reply 02, and as many wanted values. Settings 47, 48 and 49 have no register: each must be wanted as it is, or it is
+ * TRACKSAFFRON_REFUSED_REGISTER. A setting of 32 bits without sign is the word with the same bits. */
 #define TRACKSAFFRON_RESTORE_OPENED 1
 uint64_t tracksaffron_restore_open(const int32_t *present, size_t words, const int32_t *wanted, size_t values, uint8_t *job, size_t bytes);
 

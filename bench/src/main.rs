@@ -15,6 +15,7 @@ fn main() {
     tongzhu();
     pace();
     old58();
+    restore();
 }
 
 fn checksums() {
@@ -143,6 +144,51 @@ fn old58() {
         || plain::old_read(black_box(&record), &mut *row.borrow_mut()),
         || ours::old_read(black_box(&record), &mut *row2.borrow_mut()),
     );
+}
+
+/// The words of a pack. Each may be one more.
+const SETTINGS: [i32; plain::WORDS] = [
+    3100, 20, 4, 55, 50, 2, 0, 5, 2, 60, 55, 2, -20, -15, 2, 72, 3, 300, 49, 4, 300, 20, 10, -100, 10, 30, 40, 10, 90,
+    80, 2, 5, 5, 60, 3000, 5, -3000, 5, 3900, 5, 2000, 5, 100_000, 0, 0, 0, 0, 5000, 80, 60_000,
+];
+
+fn restore() {
+    // All settings differ, fixed ones too, as no opening leaves it; or the last that is written alone, which takes the longest to find.
+    let last = plain::WRITABLE - 1;
+    for (differ, what) in [(0..plain::WORDS, "50 settings differ"), (last..last + 1, "1 setting differs, the last")] {
+        let mut wanted = SETTINGS;
+        wanted[differ.clone()].iter_mut().for_each(|value| *value += 1);
+        let mut opened = [0; plain::JOB];
+        let words = SETTINGS.iter().chain(&wanted).flat_map(|word| word.to_le_bytes());
+        opened.iter_mut().zip(words).for_each(|(place, byte)| *place = byte);
+        let (job, job2) = (RefCell::new(opened), RefCell::new(opened));
+        let (frame, frame2) = (RefCell::new([0u8; 16]), RefCell::new([0u8; 16]));
+        // Ready again before each call, which leaves the job waiting.
+        let plain_next = || {
+            job.borrow_mut()[plain::PHASE..].fill(0);
+            plain::restore_next(black_box(&mut *job.borrow_mut()), &mut *frame.borrow_mut())
+        };
+        let our_next = || {
+            job2.borrow_mut()[plain::PHASE..].fill(0);
+            ours::restore_next(black_box(&mut *job2.borrow_mut()), &mut *frame2.borrow_mut())
+        };
+        assert_eq!(plain_next(), Ok(plain::Step::Frame(11)));
+        assert_eq!(our_next(), (1 << 32) + 11);
+        assert_eq!((&job, &frame), (&job2, &frame2));
+        compare(&format!("restore next, {what}"), plain::JOB, plain_next, our_next);
+
+        let waiting = *job.borrow();
+        for (phase, job) in [("", opened), (" while waiting", waiting)] {
+            assert_eq!(plain::restore_left(&job), Ok(differ.len()));
+            assert_eq!(ours::restore_left(&job), (1 << 32) + differ.len() as u64);
+            compare(
+                &format!("restore left{phase}, {what}"),
+                plain::JOB,
+                || plain::restore_left(black_box(&job)),
+                || ours::restore_left(black_box(&job)),
+            );
+        }
+    }
 }
 
 /// The frame with this opcode and these data.

@@ -26,6 +26,8 @@ extern "C" {
         bytes: usize,
     ) -> u64;
     fn tracksaffron_old_read(s: *const u8, len: usize, row: *mut i32, numbers: usize) -> u64;
+    fn tracksaffron_restore_next(job: *mut u8, bytes: usize, out: *mut u8, room: usize) -> u64;
+    fn tracksaffron_restore_left(job: *const u8, bytes: usize) -> u64;
 }
 
 // SAFETY, of each call here: it takes any slices, reads or writes them within their lengths only, and keeps nothing of them.
@@ -72,4 +74,12 @@ pub fn pace_read(address: u8, asked: u8, s: &[u8], row: &mut [i32], text: &mut [
             text.len(),
         )
     }
+}
+
+pub fn restore_next(job: &mut [u8], out: &mut [u8]) -> u64 {
+    unsafe { tracksaffron_restore_next(job.as_mut_ptr(), job.len(), out.as_mut_ptr(), out.len()) }
+}
+
+pub fn restore_left(job: &[u8]) -> u64 {
+    unsafe { tracksaffron_restore_left(job.as_ptr(), job.len()) }
 }

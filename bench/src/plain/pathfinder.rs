@@ -50,30 +50,87 @@ pub fn pf_read(asked: u8, s: &[u8], row: &mut [i32]) -> Option<usize> {
     Some(50)
 }
 
-/// Ranges of registers 0 to 14.
-static RANGES: [(i32, i32); 15] = [
-    (0, 5000),
-    (0, 255),
-    (0, 16),
-    (-40, 120),
-    (-40, 120),
-    (0, 255),
-    (-40, 120),
-    (-40, 120),
-    (0, 255),
-    (-40, 120),
-    (-40, 120),
-    (0, 255),
-    (-40, 120),
-    (-40, 120),
-    (0, 255),
+enum Range {
+    Signed(i32, i32),
+    Unsigned(u32, u32),
+    Unknown,
+}
+
+impl Range {
+    fn takes(&self, value: i32) -> bool {
+        match *self {
+            Range::Signed(least, most) => (least..=most).contains(&value),
+            Range::Unsigned(least, most) => (least..=most).contains(&(value as u32)),
+            Range::Unknown => false,
+        }
+    }
+}
+
+/// The registers' ranges.
+static REGISTERS: [Range; 52] = [
+    Range::Signed(0, 5000),
+    Range::Signed(0, 255),
+    Range::Signed(0, 16),
+    Range::Signed(-40, 120),
+    Range::Signed(-40, 120),
+    Range::Signed(0, 255),
+    Range::Signed(-40, 120),
+    Range::Signed(-40, 120),
+    Range::Signed(0, 255),
+    Range::Signed(-40, 120),
+    Range::Signed(-40, 120),
+    Range::Signed(0, 255),
+    Range::Signed(-40, 120),
+    Range::Signed(-40, 120),
+    Range::Signed(0, 255),
+    Range::Signed(20, 110),
+    Range::Signed(2, 20),
+    Range::Signed(1, 2047),
+    Range::Signed(20, 90),
+    Range::Signed(2, 20),
+    Range::Signed(1, 2047),
+    Range::Signed(2, 62),
+    Range::Signed(1, 127),
+    Range::Signed(-32768, 0),
+    Range::Signed(0, 255),
+    Range::Signed(1, 255),
+    Range::Signed(2, 100),
+    Range::Signed(1, 127),
+    Range::Signed(0, 150),
+    Range::Signed(0, 150),
+    Range::Signed(0, 255),
+    Range::Signed(0, 15),
+    Range::Signed(1, 31),
+    Range::Signed(0, 255),
+    Range::Signed(-32768, 32767),
+    Range::Signed(0, 255),
+    Range::Signed(-32768, 32767),
+    Range::Signed(0, 255),
+    Range::Signed(0, 32767),
+    Range::Signed(0, 255),
+    Range::Signed(0, 32767),
+    Range::Signed(0, 255),
+    Range::Unsigned(0, u32::MAX),
+    Range::Signed(0, 1),
+    Range::Signed(0, 1),
+    Range::Signed(0, 1),
+    Range::Signed(0, 1),
+    Range::Unknown,
+    Range::Signed(0, 3),
+    Range::Unsigned(200, 10000),
+    Range::Signed(10, 90),
+    Range::Unsigned(10000, 600000),
 ];
 
 /// The frame that sets a register; how long it is, or none.
 #[inline(never)]
 pub fn pf_write(register: u8, value: i32, out: &mut [u8]) -> Option<usize> {
-    let (low, high) = *RANGES.get(usize::from(register))?;
-    if value < low || high < value || out.len() < 11 {
+    set_frame(register, value, out)
+}
+
+/// The same, which the restore may inline.
+pub fn set_frame(register: u8, value: i32, out: &mut [u8]) -> Option<usize> {
+    if !REGISTERS.get(usize::from(register))?.takes(value) || out.len() < 11 {
         return None;
     }
     out[..4].copy_from_slice(&[0xFE, 6, 0x0E, register]);

@@ -76,7 +76,8 @@ pub fn ask(opcode: u8, out: &mut [u8]) -> Result<usize> {
     written(unsafe { tracksaffron_pf_ask(opcode, out.as_mut_ptr(), out.len()) })
 }
 
-/// Writes the request that sets a register; how many bytes it has.
+/// Writes the request that sets a register, 0 to 46 or 48 to 51, in its range; how many bytes it has. A value of 32 bits
+/// without sign is the one with the same bits.
 pub fn write(register: u8, value: i32, out: &mut [u8]) -> Result<usize> {
     written(unsafe { tracksaffron_pf_write(register, value, out.as_mut_ptr(), out.len()) })
 }

@@ -1,12 +1,12 @@
-//! The restore of Pathfinder settings 0 to 14. Its job lives in bytes, which may be stored and taken up again.
+//! The restore of Pathfinder settings. Its job lives in bytes, which may be stored and taken up again.
 
 use crate::calls::*;
 use crate::{only, told, unlisted, Result};
 
 /// How many bytes a job has, and how many words and values a restore opens on.
-pub const JOB_BYTES: usize = 262;
+pub const JOB_BYTES: usize = 402;
 pub const PRESENT_WORDS: usize = 50;
-pub const WANTED_VALUES: usize = 15;
+pub const WANTED_VALUES: usize = 50;
 
 /// A restore that was opened.
 #[derive(Clone, Debug, PartialEq, Eq)]
@@ -29,7 +29,9 @@ pub enum Outcome {
 }
 
 impl Job {
-    /// Opens a restore of a pack that holds the 50 words `present`, towards the 15 values `wanted`.
+    /// Opens a restore of a pack that holds the 50 words `present`, towards the 50 values `wanted`. Settings 47, 48 and 49
+    /// have no register: each must be wanted as it is, or it is [`Refusal::Register`](crate::Refusal::Register). A setting
+    /// of 32 bits without sign is the word with the same bits.
     pub fn open(present: &[i32], wanted: &[i32]) -> Result<Job> {
         let mut job = [0; JOB_BYTES];
         let answer = unsafe {

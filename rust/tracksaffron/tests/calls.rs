@@ -38,7 +38,9 @@ fn pathfinder_calls() {
     let mut out = [7; 16];
     assert_eq!(pathfinder::write(3, 56, &mut out[..10]), Err(Refusal::Room));
     assert_eq!(pathfinder::write(3, 128, &mut out), Err(Refusal::Range));
-    assert_eq!(pathfinder::write(15, 0, &mut []), Err(Refusal::Register));
+    assert_eq!(pathfinder::write(47, 0, &mut []), Err(Refusal::Register));
+    assert_eq!(pathfinder::write(52, 0, &mut []), Err(Refusal::Register));
+    assert_eq!(pathfinder::write(49, -1, &mut out), Err(Refusal::Range));
     assert_eq!(out, [7; 16]);
     assert_eq!(pathfinder::write(3, 56, &mut out), Ok(11));
     assert_eq!((&out[..11], &out[11..]), (&SET[..], &[7; 5][..]));
@@ -81,7 +83,9 @@ fn pathfinder_calls() {
     assert_eq!(pathfinder::parse(&SET), Ok(pathfinder::Request::Set { register: 3, value: 56 }));
     assert_eq!(pathfinder::parse(&framed(2, &[])), Ok(pathfinder::Request::Ask(2)));
     assert_eq!(pathfinder::parse(&SET[..10]), Err(Refusal::Length));
-    assert_eq!(pathfinder::parse(&framed(0x0E, &[15, 0, 0, 0, 0])), Err(Refusal::Register));
+    assert_eq!(pathfinder::parse(&framed(0x0E, &[47, 0, 0, 0, 0])), Err(Refusal::Register));
+    let capacity = pathfinder::Request::Set { register: 42, value: -1 };
+    assert_eq!(pathfinder::parse(&framed(0x0E, &[42, 255, 255, 255, 255])), Ok(capacity));
 }
 
 #[test]
@@ -185,15 +189,34 @@ fn old58_calls() {
     assert_eq!(row[..7], [12800, 1, 32000, 1, -32000, 0, 0]);
 }
 
+/// The settings with some of them changed.
+fn with(mut settings: [i32; 50], changes: &[(usize, i32)]) -> [i32; 50] {
+    for &(setting, value) in changes {
+        settings[setting] = value;
+    }
+    settings
+}
+
 #[test]
 fn restore_calls() {
-    let mut present = [0; 50];
-    present[..15].copy_from_slice(&[1000, 10, 4, 55, 50, 5, 0, 40, 5, 50, 0, 5, 0, 40, 5]);
-    let mut wanted = [0; 15];
-    wanted.copy_from_slice(&present[..15]);
+    // The example pack of 000, but for 21, 26, 31 and 32, which are in range here.
+    let present = [
+        3100, 20, 4, 55, 50, 2, 0, 5, 2, 60, 55, 2, -20, -15, 2, 72, 2, 301, 49, 2, 301, 62, 88, -170, 2, 15, 100, 88,
+        80, 65, 2, 14, 1, 30, 1000, 1, -1500, 1, 4500, 0, 1000, 0, 229995, 1, 1, 1, 1, 3000, 50, 10000,
+    ];
+    let mut wanted = present;
     (wanted[3], wanted[4]) = (45, 40);
     assert_eq!(Job::open(&present[..49], &wanted), Err(Refusal::Shape));
-    assert_eq!(Job::open(&present, &[]), Err(Refusal::Shape));
+    assert_eq!(Job::open(&present, &wanted[..49]), Err(Refusal::Shape));
+    assert_eq!(Job::open(&present, &with(wanted, &[(2, 17)])), Err(Refusal::Range));
+    assert_eq!(Job::open(&present, &with(wanted, &[(2, 17), (48, 51)])), Err(Refusal::Register));
+    assert_eq!(Job::open(&with(present, &[(43, 2)]), &with(wanted, &[(48, 51)])), Err(Refusal::Shape));
+    let mut job = Job::open(&present, &with(present, &[(28, 90), (29, 85), (42, -1)])).unwrap();
+    for register in [28, 29, 42] {
+        let mut out = [0; 11];
+        assert_eq!((job.next(&mut out), out[3]), (Ok(Step::Frame(11)), register));
+        assert_eq!(job.reply(&framed(0x0E, &[])), Ok(Outcome::Written));
+    }
     let mut job = Job::open(&present, &wanted).unwrap();
     let (mut out, written) = ([0; 11], framed(0x0E, &[]));
     assert_eq!(job.left(), Ok(2));
@@ -209,14 +232,14 @@ fn restore_calls() {
 
     let mut job = Job::open(&present, &wanted).unwrap();
     assert_eq!(job.next(&mut out), Ok(Step::Frame(11)));
-    for other in [3, 0, 15, 50, 255] {
+    for other in [3, 0, 47, 49, 50, 255] {
         let mut lost = job.clone();
-        lost.0[261] = other;
+        lost.0[401] = other;
         assert_eq!((lost.next(&mut out), lost.left()), (Err(Refusal::Shape), Err(Refusal::Shape)));
         assert_eq!(lost.reply(&written), Err(Refusal::Shape));
     }
     assert_eq!(job.reply(&framed(0x24, &[])), Ok(Outcome::Failure(0x24)));
     assert_eq!(job.next(&mut out), Err(Refusal::Turn));
-    job.0[260] = 3;
+    job.0[400] = 3;
     assert_eq!((job.next(&mut out), job.left()), (Err(Refusal::Shape), Err(Refusal::Shape)));
 }
