@@ -3,7 +3,7 @@
 use mathlib.Core.Path.{_≡_, refl, ap, _∙_}
 use mathlib.Core.Bool.{Bool, true, false, _&&_, _||_}
 use mathlib.Core.List.{List, [], _∷_}
-use mathlib.Core.Logic.{_⊎_, inl, inr, ⊎-elim}
+use mathlib.Core.Logic.{⊎-elim}
 use Prim.Native.Nat.{ℕ, _+_, _<_}
 use native.Mathlib.Nat.{eq-or-lt-of-le}
 use native.Mathlib.Omega.{arith}
@@ -16,6 +16,7 @@ use Rattle.laws.proofs.Every.{every-at}
 use Rattle.laws.proofs.Ladders.{both}
 use Rattle.restore_order.specs.Slots.{Slot, alone, pair, slots, differs, onlyIf, upperFirst, inPair, writes}
 use Rattle.restore_order.proofs.Integers.{clash}
+use Rattle.restore_order.proofs.Members.{or-right, either}
 use Rattle.restore_rules.specs.declared.First.the-variants.{At, Nothing}
 use Rattle.restore_rules.specs.declared.Place.{Place}
 use Rattle.restore_rules.specs.declared.Place.the-variants.{Pair, Alone}
@@ -57,14 +58,6 @@ members-below n u l h e =
     (ltb-true u 50 (b .0), ltb-true l 50 (b .1))
 
 -- ---- the first write
-
-either : (a b : Bool) → (a || b) ≡ true → (a ≡ true) ⊎ (b ≡ true)
-either true b e = inl refl
-either false b e = inr e
-
-or-true : (a : Bool) → (a || true) ≡ true
-or-true true = refl
-or-true false = refl
 
 module _ (p w : List ℤ) where
   -- no setting below n differs
@@ -122,7 +115,7 @@ module _ (p w : List ℤ) where
 
     one-differs : (u l : ℕ) → (eqb u n || eqb l n) ≡ true → (differs p w u || differs p w l) ≡ true
     one-differs u l e =
-        ⊎-elim (λ h. rw (eqb-true u n h, changed)) (λ h. rw (eqb-true l n h, changed) (or-true (differs p w u))) (either (eqb u n) (eqb l n) e)
+        ⊎-elim (λ h. rw (eqb-true u n h, changed)) (λ h. rw (eqb-true l n h, changed) (or-right (differs p w u) true refl)) (either (eqb u n) (eqb l n) e)
 
     found : (s : List Slot) (x : Place) → leads n s x ≡ true → firstOf (writes s p w) ≡ firstOf (writes (slotFor n x) p w)
     unfolding writes
