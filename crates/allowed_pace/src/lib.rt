@@ -1,4 +1,6 @@
 // What may be written to a PACE pack: the values of a setting in the ranges and steps of its layout (004, "Parameter Setting" tab; 01, PACE).
+#![tactic(auto)]
+
 ghost use Rattle.std.specs.Prelude.{◌≡◌, ◌<◌};
 ghost use Rattle.characters_pace.specs.Characters.{all_of};
 ghost use Rattle.layouts_pace.specs.Settings.{layout_of};

@@ -1,5 +1,7 @@
 // The reply to 42, analog information (004, Get Analog Information; 01, PACE).
 // INFO comes as characters; where they are no bytes that is refused first, and the rest is said of the bytes that they carry.
+#![tactic(auto)]
+
 ghost use Rattle.std.specs.Prelude.{◌≡◌, ◌++◌, ◌+◌, ◌*◌, ◌≤◌, pos, drop, replicate};
 ghost use Rattle.characters_pace.specs.Characters.{bytes_in, checked_info};
 ghost use Rattle.analog_pace.specs.Analog.{tenths_of, tenths_at, numbers_of, nothing, with_counts, reading_of};

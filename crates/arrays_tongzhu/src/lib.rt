@@ -1,4 +1,6 @@
 // The lists of Tongzhu's function 12 (002, 6.1.3; 01, Tongzhu) as arrays by value, places past a count 0. `monitor3_tongzhu` says where they lie.
+#![tactic(auto)]
+
 ghost use Rattle.std.specs.Prelude.{◌≡◌, ◌+◌, ◌*◌, ◌≤◌, length, get_or, pos};
 ghost use Rattle.monitor3_tongzhu.specs.Values.{number_at, temperature_at, places_of};
 ghost use Rattle.monitor3_tongzhu.specs.Layout.{Within, no_lists, lists_in, lists_at};

@@ -1,4 +1,6 @@
 // BCD bytes: two decimal digits in a byte (002, 6.9.3 and 6.11.2).
+#![tactic(auto)]
+
 ghost use Rattle.std.specs.Prelude.{◌≡◌};
 ghost use Rattle.bcd.specs.Decimal.{bcd_of, bcd_byte};
 

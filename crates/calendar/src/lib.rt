@@ -1,4 +1,6 @@
 // Real Gregorian dates of 2000 to 2099 and times of day (01, Tongzhu, function 30).
+#![tactic(auto)]
+
 ghost use Rattle.std.specs.Prelude.{◌≡◌, ◌+◌, ◌≤◌};
 ghost use Rattle.calendar.specs.Dates.{days_in, real_date, real_time};
 

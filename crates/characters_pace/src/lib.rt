@@ -1,4 +1,6 @@
 // Bytes as PACE characters (01, PACE): two upper-case hex digits a byte, the high digit first. Numbers have the high byte first.
+#![tactic(auto)]
+
 ghost use Rattle.std.specs.Prelude.{◌≡◌, get_or};
 ghost use Rattle.digits.specs.Hexes.{byte_of};
 ghost use Rattle.characters_pace.specs.Characters.{value_in, bytes_in, word_at};

@@ -1,4 +1,6 @@
 // The checksum: CRC-16/XMODEM over bytes (000, Checksum; 01, Pathfinder).
+#![tactic(auto)]
+
 ghost use Rattle.std.specs.Prelude.{◌≡◌, ◌%◌, ◌<◌, length, take};
 ghost use Rattle.checks.specs.Crc.{shifts, crc_step, crc_from, crc_of};
 

@@ -1,4 +1,6 @@
 // PACE commands (004; 01, PACE, Requests): four of their own, and two for each setting, as its layout names them.
+#![tactic(auto)]
+
 ghost use Rattle.std.specs.Prelude.{◌≡◌};
 ghost use Rattle.commands_pace.specs.Commands.{by_setting, command_of, listed};
 ghost use Rattle.layouts_pace.specs.Settings.{settings};

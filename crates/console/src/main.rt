@@ -1,5 +1,7 @@
 // The console: one line in, one line out (docs/CONSOLE.md). A line is one of the calls that C and Rust link. It reads standard input to its
 // end in pieces, answers each line where it stands, and writes all answers that it has before it waits for more input.
+#![tactic(auto)]
+
 mod calls;
 mod lines;
 mod text;

@@ -1,6 +1,8 @@
 // The shape that the replies 42 and 44 share (01, PACE): 00, the address, the number of cells and a value for each, the number of
 // temperatures and a value for each, and the rest. INFO comes as characters; where they are no bytes that is refused first, and the
 // rest is said of the bytes that they carry.
+#![tactic(auto)]
+
 ghost use Rattle.std.specs.Prelude.{◌≡◌, ◌≤◌};
 ghost use Rattle.characters_pace.specs.Characters.{bytes_in, checked_info};
 ghost use Rattle.counts_pace.specs.Counts.{space_of, shaped, counts_of};

@@ -1,4 +1,6 @@
 // Hex digits 0-9 and A-F, to and from bytes (01, PACE).
+#![tactic(auto)]
+
 ghost use Rattle.std.specs.Prelude.{◌≡◌, ◌%◌};
 ghost use Rattle.digits.specs.Hexes.{digit_of, byte_of, char_of, chars_of};
 

@@ -1,5 +1,7 @@
 // Answers for languages that share no enum and no struct: one number for the answer, a lent row of numbers for its values, lent bytes for
 // its text. `specs/Told.antt` says which number and which values; the crates `exports_*` say it for each device.
+#![tactic(auto)]
+
 ghost use Rattle.std.specs.Prelude.{◌≡◌, length};
 ghost use Rattle.exports_answers.specs.Told.{coded_as, room_code, over};
 ghost use Rattle.exports_answers.specs.Writing.{written_code};

@@ -1,4 +1,6 @@
 // Checksums for other languages (`rt staticlib exports_checks`): numbers and slices only, each call safe with any input.
+#![tactic(auto)]
+
 ghost use Rattle.std.specs.Prelude.{◌≡◌};
 ghost use Rattle.checks.specs.Crc.{crc_of};
 ghost use Rattle.sums.specs.Sums.{total, closing};

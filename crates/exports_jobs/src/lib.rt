@@ -1,5 +1,7 @@
 // A restore's job for other languages (`rt staticlib exports_jobs`): it lives in bytes that the caller lends, 402 of them, and each call is one of
 // `restore_jobs` on the job in them (`restore_bytes`, `restore_stored`): a restore opened, and what is left. `specs/Opened.antt` says what open answers.
+#![tactic(auto)]
+
 ghost use Rattle.std.specs.Prelude.{◌≡◌};
 ghost use Rattle.laws.specs.Choice.{pick};
 ghost use Rattle.refusals.specs.Refused.{shape};

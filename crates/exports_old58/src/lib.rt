@@ -1,5 +1,7 @@
 // The 58-byte monitor for other languages (`rt staticlib exports_old58`): numbers and slices only, safe with any input.
 // `specs/Records.antt` says at which place of the row each value stands.
+#![tactic(auto)]
+
 ghost use Rattle.std.specs.Prelude.{◌≡◌, ◌<◌, pos, length};
 ghost use Rattle.old58.specs.Read.{reading_of};
 ghost use Rattle.old58.specs.Record.{record_of};

@@ -1,5 +1,7 @@
 // PACE's replies for other languages (`rt staticlib exports_pace`): numbers and slices only, each call safe with any input.
 // `specs/Replies.antt` says which number an answer goes out as, and at which place of the row each of its values stands.
+#![tactic(auto)]
+
 ghost use Rattle.std.specs.Prelude.{◌≡◌, length, take};
 ghost use Rattle.records_pace.specs.Reply.{reply_of};
 ghost use Rattle.exports_answers.specs.Told.{code_of, row_after, text_after, room_code, over};

@@ -1,5 +1,7 @@
 // PACE's requests, read, for other languages (`rt staticlib exports_parsed_pace`): numbers and slices only, the call safe with any input.
 // `specs/Requests.antt` says which number a request goes out as, and at which place of the row each of its values stands.
+#![tactic(auto)]
+
 ghost use Rattle.std.specs.Prelude.{◌≡◌, length};
 ghost use Rattle.exports_answers.specs.Told.{code_of, row_after};
 ghost use Rattle.requests_read_pace.specs.Parsed.{parsed_of};

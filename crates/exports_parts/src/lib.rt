@@ -1,5 +1,7 @@
 // A part of a row: numbers of one list, placed in a lent row from a place on (`specs/Parts.antt`). A row in which they do not fit stays as it was,
 // and 11 is answered, else 0.
+#![tactic(auto)]
+
 ghost use Rattle.std.specs.Prelude.{◌≡◌, map, pos, length};
 ghost use Rattle.exports_parts.specs.Parts.{fit_code, placed};
 

@@ -1,6 +1,8 @@
 // Pathfinder's replies for other languages, and the search for one (`rt staticlib exports_pathfinder`): numbers and slices only, each call
 // safe with any input.
 // An answer that is an enum goes out as one number: `specs/Codes.antt` says which.
+#![tactic(auto)]
+
 ghost use Rattle.std.specs.Prelude.{◌≡◌, [], ◌∷◌, length};
 ghost use Rattle.records_pathfinder.specs.Replies.{reply_of, row_after, name_after};
 ghost use Rattle.search_pathfinder.specs.Places.{search_of};

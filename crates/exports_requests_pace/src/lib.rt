@@ -1,5 +1,7 @@
 // PACE's requests, written, for other languages (`rt staticlib exports_requests_pace`): numbers and slices only, each call safe with any input.
 // `specs/Requests.antt` says which request the numbers of a setting are.
+#![tactic(auto)]
+
 ghost use Rattle.std.specs.Prelude.{◌≡◌, length};
 ghost use Rattle.exports_answers.specs.Writing.{written_code};
 ghost use Rattle.refusals.specs.Writing.{room_after};

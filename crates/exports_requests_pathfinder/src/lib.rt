@@ -1,4 +1,6 @@
 // Pathfinder's requests, written, for other languages (`rt staticlib exports_requests_pathfinder`): numbers and slices only, each call safe with any input.
+#![tactic(auto)]
+
 ghost use Rattle.std.specs.Prelude.{◌≡◌, length};
 ghost use Rattle.refusals.specs.Writing.{room_after};
 ghost use Rattle.requests_pathfinder.specs.Requests.{frame_for, sent_as};

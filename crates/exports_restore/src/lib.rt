@@ -1,5 +1,7 @@
 // The restore's calls that speak with the pack, for other languages (`rt staticlib exports_restore`): the job lives in bytes that the caller lends
 // (`restore_bytes`, `restore_stored`; opened by `exports_jobs`), and each call is `restore_next` or `restore_reply` on the job in them. `specs/Steps.antt` says what each answers.
+#![tactic(auto)]
+
 ghost use Rattle.std.specs.Prelude.{◌≡◌, length};
 ghost use Rattle.laws.specs.Choice.{pick};
 ghost use Rattle.refusals.specs.Refused.{shape};

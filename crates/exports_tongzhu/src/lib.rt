@@ -1,5 +1,7 @@
 // Tongzhu's replies for other languages (`rt staticlib exports_tongzhu`): numbers and slices only, each call safe with any input.
 // `specs/Replies.antt` says which number an answer goes out as, and at which place of the row each of its values stands.
+#![tactic(auto)]
+
 ghost use Rattle.std.specs.Prelude.{◌≡◌, [], ◌∷◌, length};
 ghost use Rattle.monitor3_tongzhu.specs.Layout.{found_at, lists_at};
 ghost use Rattle.payloads_tongzhu.specs.Payloads.{answer_in};

@@ -1,6 +1,8 @@
 // What a word of a Pathfinder reply means, for other languages (`rt staticlib exports_values_pathfinder`): numbers and slices only, each call
 // safe with any input.
 // An answer that is an enum goes out as one number: `specs/Values.antt` says which.
+#![tactic(auto)]
+
 ghost use Rattle.std.specs.Prelude.{◌≡◌, [], ◌∷◌, length};
 ghost use Rattle.rows_pathfinder.specs.Narrowing.{row_of};
 ghost use Rattle.exports_answers.specs.Told.{code_of, row_after, room_code, over};

@@ -1,5 +1,7 @@
 // Whether PACE characters are bytes at all (01, PACE; 01, Refusal numbers): upper-case hex digits (13), an even count of them (8). What is said of them is
 // defined in `characters_pace`.
+#![tactic(auto)]
+
 ghost use Rattle.std.specs.Prelude.{◌≡◌, ◌<◌};
 ghost use Rattle.digits.specs.Hexes.{digit_of};
 ghost use Rattle.laws.specs.Choice.{pick};

@@ -1,4 +1,6 @@
 // Tongzhu records as rows of numbers, for the console, C and Rust alike: `specs/Numbers.antt` says at which place each value stands.
+#![tactic(auto)]
+
 ghost use Rattle.std.specs.Prelude.{◌≡◌};
 ghost use Rattle.flat_tongzhu.specs.Numbers.{status_numbers, monitor2_numbers, monitor3_numbers};
 

@@ -1,5 +1,7 @@
 // PACE frames (004; 01, PACE): ~, then upper-case hex: version 25, address, CID1 46, command (a return code in a reply),
 // LENGTH, INFO, CHKSUM, then carriage return. `frames_written_pace` writes them.
+#![tactic(auto)]
+
 ghost use Rattle.std.specs.Prelude.{◌≡◌, ◌&&◌, eqb, get_or};
 ghost use Rattle.lengths_pace.specs.Lengths.{count_of};
 ghost use Rattle.characters_pace.specs.Characters.{bytes_in, word_at};

@@ -1,6 +1,8 @@
 // Pathfinder frames (000, Serial message format; 01, Pathfinder): FE, length, opcode, data, checksum with the high byte first, FD.
 // The length counts opcode and data, so a frame has 6 to 260 bytes; the checksum covers length, opcode and data.
 // `frames_written_pathfinder` writes them.
+#![tactic(auto)]
+
 ghost use Rattle.std.specs.Prelude.{◌≡◌, [], ◌∷◌, eqb};
 ghost use Rattle.checks.specs.Crc.{crc_of};
 ghost use Rattle.numbers.specs.declared.Order.TheVariants.{HighFirst};

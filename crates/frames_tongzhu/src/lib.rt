@@ -1,5 +1,7 @@
 // Tongzhu frames (002, 4; 01, Tongzhu): 7F, 10, 02, LEN, FUN, MSG, check. LEN counts the whole frame, 6 to 255, and all bytes
 // with the check sum to 0 modulo 256. `frames_written_tongzhu` writes them.
+#![tactic(auto)]
+
 ghost use Rattle.std.specs.Prelude.{◌≡◌, ◌&&◌, eqb};
 ghost use Rattle.refusals.specs.Refused.{refused_with};
 ghost use Rattle.frames_tongzhu.specs.Reading.{frame_of};

@@ -1,4 +1,6 @@
 // PACE frames written (004; 01, PACE): a payload as characters between the header and CHKSUM. `frames_pace` reads them.
+#![tactic(auto)]
+
 ghost use Rattle.std.specs.Prelude.{◌≡◌, ◌+◌, ◌≤◌, ◌<◌, length};
 ghost use Rattle.characters_pace.specs.Characters.{hexed};
 ghost use Rattle.refusals.specs.Writing.{room_after};

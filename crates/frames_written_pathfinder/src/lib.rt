@@ -1,5 +1,7 @@
 // Pathfinder frames written (000, Serial message format; 01, Pathfinder): start mark, length and opcode before the data, checksum and end mark
 // after them. `frames_pathfinder` reads them.
+#![tactic(auto)]
+
 ghost use Rattle.std.specs.Prelude.{◌≡◌, length};
 ghost use Rattle.refusals.specs.Writing.{left_after};
 ghost use Rattle.frames_written_pathfinder.specs.Writing.{end_of, half_as, begun, sealed};

@@ -1,4 +1,6 @@
 // Tongzhu frames written (002, 4; 01, Tongzhu): the head before a payload and the check after it. `frames_tongzhu` reads them.
+#![tactic(auto)]
+
 ghost use Rattle.std.specs.Prelude.{◌≡◌, [], ◌∷◌, length};
 ghost use Rattle.refusals.specs.Writing.{left_after};
 ghost use Rattle.frames_written_tongzhu.specs.Writing.{half_as, begun, sealed};

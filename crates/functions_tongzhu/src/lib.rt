@@ -1,4 +1,6 @@
 // Tongzhu functions (01, Tongzhu): which there are, and what each is asked for.
+#![tactic(auto)]
+
 ghost use Rattle.std.specs.Prelude.{◌≡◌};
 ghost use Rattle.functions_tongzhu.specs.Functions.{kind_of};
 

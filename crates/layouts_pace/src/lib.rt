@@ -1,4 +1,6 @@
 // The PACE settings that can be read and written, each with its layout and its values by name (004, "Parameter Setting" tab; 01, PACE).
+#![tactic(auto)]
+
 ghost use Rattle.std.specs.Prelude.{◌≡◌};
 ghost use Rattle.layouts_pace.specs.Settings.{layout_of, values_of};
 

@@ -1,4 +1,6 @@
 // The LENGTH word of a PACE frame (01, PACE): a count of characters, and a digit that closes the sum of the digits.
+#![tactic(auto)]
+
 ghost use Rattle.std.specs.Prelude.{◌≡◌};
 ghost use Rattle.lengths_pace.specs.Lengths.{word_of, count_of};
 

@@ -1,5 +1,7 @@
 // Lists of bytes and numbers from PACE characters (01, PACE), read into a lent row. What they are is said in `characters_pace`, as one byte and one
 // number are.
+#![tactic(auto)]
+
 ghost use Rattle.std.specs.Prelude.{◌≡◌, length};
 ghost use Rattle.characters_pace.specs.Characters.{bytes_in, bytes_at, words_at};
 

@@ -1,5 +1,7 @@
 // Words one after the other, four bytes for each (000, Serial message format): read into a lent row, and put at the front of a lent room. What one
 // word is stands in `words_pathfinder`.
+#![tactic(auto)]
+
 ghost use Rattle.std.specs.Prelude.{◌≡◌, ◌++◌, ◌+◌, ◌*◌, ◌≤◌, length, drop};
 ghost use Rattle.lists_pathfinder.specs.Lists.{words, bytes_of_words, read_fault, row_read, put_fault, bytes_put, one_at};
 

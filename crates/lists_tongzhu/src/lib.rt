@@ -1,5 +1,7 @@
 // The lists of a Tongzhu monitor 3 in a row of numbers, for the console, C and Rust alike: each goes from the payload straight into its
 // places (docs/DECISIONS.md, Tongzhu). `specs/Lists.antt` says at which place each list begins.
+#![tactic(auto)]
+
 ghost use Rattle.std.specs.Prelude.{◌≡◌, ◌+◌, ◌*◌, ◌≤◌, pos, length, get_or, drop, replicate};
 ghost use Rattle.exports_parts.specs.Parts.{fit_code};
 ghost use Rattle.monitor3_tongzhu.specs.Values.{number_at, temperature_at, places_of};

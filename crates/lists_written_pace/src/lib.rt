@@ -1,4 +1,6 @@
 // Bytes as PACE characters (01, PACE), written to the front of a lent room.
+#![tactic(auto)]
+
 ghost use Rattle.std.specs.Prelude.{◌≡◌, length};
 ghost use Rattle.refusals.specs.Writing.{written_as, room_after};
 ghost use Rattle.characters_pace.specs.Characters.{hexed};

@@ -1,5 +1,7 @@
 // The fields of Tongzhu's function 12 (002, 6.1.3; 01, Tongzhu), wherever in a payload they begin: a reply to function 12 has them from
 // its payload's first byte on. No other place says how these fields lie.
+#![tactic(auto)]
+
 ghost use Rattle.std.specs.Prelude.{◌≡◌, ◌+◌, ◌*◌, ◌<◌, ◌≤◌, length, get_or};
 ghost use Rattle.monitor3_tongzhu.specs.Values.{number_at, status_at};
 ghost use Rattle.monitor3_tongzhu.specs.Layout.{Shaped, shape_of, monitor3_of, found_of, found_at, nowhere, places_by, places_at};

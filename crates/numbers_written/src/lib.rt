@@ -1,4 +1,6 @@
 // The bytes of unsigned numbers of 16 and 32 bits, the low or the high byte first.
+#![tactic(auto)]
+
 ghost use Rattle.std.specs.Prelude.{◌≡◌};
 ghost use Rattle.numbers.specs.Bytes.{bytes_of};
 

@@ -1,5 +1,7 @@
 // The 58-byte monitor (001; 01, The 58-byte monitor): one record of 58 bytes without marks. Whether bytes are one, and the record with all
 // its parts. Indices count from 0.
+#![tactic(auto)]
+
 ghost use Rattle.std.specs.Prelude.{◌≡◌, ◌-◌, ◌%◌, ◌≤◌, length, take};
 ghost use Rattle.sums.specs.Sums.{total};
 ghost use Rattle.old58.specs.Record.{record_of};

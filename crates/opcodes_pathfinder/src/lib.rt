@@ -1,4 +1,6 @@
 // The opcodes of Pathfinder replies (000, Opcode Details; 01, Pathfinder): which there are, and what the reply to each request holds.
+#![tactic(auto)]
+
 ghost use Rattle.std.specs.Prelude.{◌≡◌};
 ghost use Rattle.opcodes_pathfinder.specs.Opcodes.{is_listed, kind_of, shape_of};
 

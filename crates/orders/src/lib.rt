@@ -1,4 +1,6 @@
 // The orders in which refusals are given (01, Refusal numbers), each over tests that have been made: the number of the first refusal, or 0.
+#![tactic(auto)]
+
 ghost use Rattle.std.specs.Prelude.{◌≡◌};
 ghost use Rattle.orders.specs.Orders.{pace_frame, writing};
 

@@ -1,5 +1,7 @@
 // The parts of a record of the 58-byte monitor (001; 01, The 58-byte monitor), each from its own bytes, numbers with the high byte first.
 // Places are the document's byte numbers, counted from 1. That the bytes are a record is another crate's to say (`old58::judge`).
+#![tactic(auto)]
+
 ghost use Rattle.std.specs.Prelude.{◌≡◌, ◌≤◌, ◌<◌};
 ghost use Rattle.parts_old58.specs.Parts.{byte_at, two_at, three_at, volts_at, degrees_at, current_of, current_at, pack_of, extremes_of, cell_of, energy_of, setup_of};
 

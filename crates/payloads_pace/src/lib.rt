@@ -1,5 +1,7 @@
 // What the INFO of a PACE reply says, by the command asked (004; 01, PACE): the record that the command calls for.
 // INFO comes as characters; where they are no bytes that is refused first, and the rest is said of the bytes that they carry.
+#![tactic(auto)]
+
 ghost use Rattle.std.specs.Prelude.{◌≡◌, ◌≤◌};
 ghost use Rattle.characters_pace.specs.Characters.{bytes_in, checked_info};
 ghost use Rattle.payloads_pace.specs.Payload.{bare, nothing, refused_reply, of_analog, of_warnings, of_setting, with_text, hardware_of, serial_of, accepted_of, payload_of};

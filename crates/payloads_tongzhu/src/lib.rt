@@ -1,4 +1,6 @@
 // What the payload of a Tongzhu reply says, by its function: 11, 12, 14, 15 or 30 (002, 5.3 and 6; 01, Tongzhu).
+#![tactic(auto)]
+
 ghost use Rattle.std.specs.Prelude.{◌≡◌, ◌+◌, ◌<◌, ◌≤◌, length, get_or};
 ghost use Rattle.monitor3_tongzhu.specs.Layout.{found_at};
 ghost use Rattle.monitor3_tongzhu.specs.Values.{number_at, current_at, status_at};

@@ -1,4 +1,6 @@
 // PACE replies (004; 01, PACE): the frame, the address and the command asked, the return code, and what INFO says to that command.
+#![tactic(auto)]
+
 ghost use Rattle.std.specs.Prelude.{◌≡◌, true};
 ghost use Rattle.characters_pace.specs.Characters.{all_hex};
 ghost use Rattle.payloads_pace.specs.Payload.{bare};

@@ -1,5 +1,7 @@
 // Pathfinder replies (000, Opcode Details; 01, Pathfinder): words into a lent row, a name into lent bytes, an acknowledgement, or the
 // device's own failure.
+#![tactic(auto)]
+
 ghost use Rattle.std.specs.Prelude.{◌≡◌, ◌++◌, ◌*◌, ◌≤◌, eqb, length, drop};
 ghost use Rattle.refusals.specs.Refused.{refused_with};
 ghost use Rattle.lists_pathfinder.specs.Lists.{words};

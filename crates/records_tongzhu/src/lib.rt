@@ -1,5 +1,7 @@
 // Tongzhu replies as records (002, 5.2 and 6; 01, Tongzhu): what a reply to one of the functions 11, 12, 14, 15 and 30 says. What its payload says
 // stands in `payloads_tongzhu`.
+#![tactic(auto)]
+
 ghost use Rattle.std.specs.Prelude.{◌≡◌};
 ghost use Rattle.laws.specs.Choice.{pick};
 ghost use Rattle.payloads_tongzhu.specs.Payloads.{sized};

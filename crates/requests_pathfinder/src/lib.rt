@@ -1,5 +1,7 @@
 // Pathfinder requests (000, List of Instruction Opcodes and 0x0E Write parameter register; 01, Pathfinder): 01 to 05 without data, 0E with a
 // register and a signed value, written as frames. `requests_read_pathfinder` reads them again.
+#![tactic(auto)]
+
 ghost use Rattle.std.specs.Prelude.{◌≡◌, length};
 ghost use Rattle.refusals.specs.Refused.{refused_with};
 ghost use Rattle.refusals.specs.Writing.{written_as, room_after};

@@ -1,4 +1,6 @@
 // PACE requests read (004; 01, PACE): which request a frame is. `requests_pace` writes them.
+#![tactic(auto)]
+
 ghost use Rattle.std.specs.Prelude.{◌≡◌, true};
 ghost use Rattle.characters_pace.specs.Characters.{all_hex};
 ghost use Rattle.requests_read_pace.specs.Parsed.{of_found, whole_of, parsed_of};

@@ -1,5 +1,7 @@
 // Pathfinder requests read (000, List of Instruction Opcodes and 0x0E Write parameter register; 01, Pathfinder): the frame, then what its opcode
 // and data ask for. `requests_pathfinder` writes them.
+#![tactic(auto)]
+
 ghost use Rattle.std.specs.Prelude.{◌≡◌};
 ghost use Rattle.refusals.specs.Refused.{refused_with};
 ghost use Rattle.requests_pathfinder.specs.Requests.{asks};

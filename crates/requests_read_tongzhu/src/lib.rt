@@ -1,4 +1,6 @@
 // Tongzhu requests read (002, 6; 01, Tongzhu): which request a frame is. `requests_tongzhu` writes them.
+#![tactic(auto)]
+
 ghost use Rattle.std.specs.Prelude.{◌≡◌, length};
 ghost use Rattle.times_tongzhu.specs.Times.{time_in};
 ghost use Rattle.requests_read_tongzhu.specs.Reading.{payload_in, time_request, parsed_of};

@@ -1,5 +1,7 @@
 // Tongzhu requests (002, 6; 01, Tongzhu), written as frames: functions 11, 12, 14 and 15 ask without a payload, 30 sets the time.
 // `requests_read_tongzhu` reads them.
+#![tactic(auto)]
+
 ghost use Rattle.std.specs.Prelude.{◌≡◌, length};
 ghost use Rattle.refusals.specs.Writing.{written_as, room_after};
 ghost use Rattle.times_tongzhu.specs.Times.{time_bytes};

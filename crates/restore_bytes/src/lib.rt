@@ -1,5 +1,7 @@
 // A restore's job in 402 bytes, for who keeps it where no struct can stand (docs/DECISIONS.md, C and Rust): judged and read.
 // `specs/Jobs.antt` says how a job stands in its bytes.
+#![tactic(auto)]
+
 ghost use Rattle.std.specs.Prelude.{◌≡◌};
 ghost use Rattle.restore_bytes.specs.Jobs.{phase_in, stands, is_job, job_of};
 

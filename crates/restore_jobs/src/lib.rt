@@ -1,5 +1,7 @@
 // A restore's job (01, Restore): its picture of the pack, what is wanted, and the phase; a job opened, and how many settings are left.
 // A job goes in by value and comes back by value. It is the job of the small machine of `restore_order`, about which demand 3 is proved.
+#![tactic(auto)]
+
 ghost use Rattle.std.specs.Prelude.{◌≡◌, length};
 ghost use Rattle.restore_order.specs.Opening.{unopened};
 ghost use Rattle.restore_jobs.specs.Jobs.{opened_as, open_of, left_of};

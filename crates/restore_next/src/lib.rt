@@ -1,5 +1,7 @@
 // The night restore of the Pathfinder's settings (01, Restore): next, the call that writes to the pack, on a job of `restore_jobs`. It
 // is one step of the small machine of `restore_order`, about which demand 3 is proved; its write goes out as a frame of request 0E.
+#![tactic(auto)]
+
 ghost use Rattle.std.specs.Prelude.{◌≡◌, length};
 ghost use Rattle.refusals.specs.Refused.{refused_with};
 ghost use Rattle.restore_next.specs.Next.{is_ready, sent_of, next_of, room_of};

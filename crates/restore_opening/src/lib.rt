@@ -1,5 +1,7 @@
 // Whether a restore may open (01, Restore; 02, request 2): its tests on the present words and the wanted values, in their order. Each is a definition
 // of `restore_order`; the pairs are those of `restore_rules`.
+#![tactic(auto)]
+
 ghost use Rattle.std.specs.Prelude.{◌≡◌, ◌&&◌, ◌<◌, eqb, length};
 ghost use Rattle.std.specs.Int.Signed.{lt_z};
 ghost use Rattle.laws.specs.Every.{every};

@@ -1,5 +1,7 @@
 // The night restore of the Pathfinder's settings (01, Restore): reply, the call that takes what the pack answers to a write, on a job of
 // `restore_jobs`. It is one step of the small machine of `restore_order`, about which demand 3 is proved.
+#![tactic(auto)]
+
 ghost use Rattle.std.specs.Prelude.{◌≡◌};
 ghost use Rattle.restore_order.specs.Slots.{at, put};
 ghost use Rattle.restore_reply.specs.Reply.{is_waiting, decoded_of, answer_of, read_as, answer_in, heard_of};

@@ -1,5 +1,7 @@
 // The order of a restore's writes (01, Restore): which setting is written first, and how many differ. Each is a definition of
 // `restore_order`, read off the present words and the wanted values alone.
+#![tactic(auto)]
+
 ghost use Rattle.std.specs.Prelude.{◌≡◌, [], ◌∷◌, ◌<◌};
 ghost use Rattle.restore_order.specs.Slots.{pair, differs, writes, slots, how_many};
 ghost use Rattle.restore_rules.specs.Places.{place_at, slot_at};

@@ -1,4 +1,6 @@
 // A restore's job put into the 402 bytes that `restore_bytes` reads; proofs/RoundTrip.antt has that it reads back.
+#![tactic(auto)]
+
 ghost use Rattle.std.specs.Prelude.{◌≡◌, ◌++◌, length, take};
 ghost use Rattle.restore_stored.specs.Stored.{phase_bytes, size_fault, job_after};
 

@@ -1,4 +1,6 @@
 // The rows of Pathfinder replies 01 to 04 (000, data definitions; 01, Pathfinder): a word narrowed to its row's type.
+#![tactic(auto)]
+
 ghost use Rattle.std.specs.Prelude.{◌≡◌, ◌&&◌, ◌||◌, ◌-◌, ◌%◌, ◌<◌, eqb, pos};
 ghost use Rattle.refusals.specs.Refused.{refused_with};
 ghost use Rattle.signs.specs.Signed.{signed_of};

@@ -1,4 +1,6 @@
 // The search for a Pathfinder frame among log text (000, Serial message format: logs are streamed on the same port; 01, Pathfinder).
+#![tactic(auto)]
+
 ghost use Rattle.std.specs.Prelude.{◌≡◌, ◌+◌, ◌-◌, ◌<◌, ◌≤◌, length, get_or};
 ghost use Rattle.search_pathfinder.specs.Places.{span_of, scan, search_of};
 

@@ -1,5 +1,7 @@
 // PACE settings in INFO: the values of a reply and those of a request (004, "Parameter Setting" tab; 01, PACE).
 // INFO comes as characters; where they are no bytes that is refused first, and the rest is said of the bytes that they carry.
+#![tactic(auto)]
+
 ghost use Rattle.std.specs.Prelude.{◌≡◌, map, ◌≤◌};
 ghost use Rattle.characters_pace.specs.Characters.{all_of, bytes_in, checked_info};
 ghost use Rattle.settings_pace.specs.Reading.{shaped, amount_of, is_amount, amount_in, reply_of, request_of};

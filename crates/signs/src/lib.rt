@@ -1,4 +1,6 @@
 // Two's complement: signed numbers from 8, 16 and 32 bits, and the 32 bits of one (01: "in two's complement for signed types").
+#![tactic(auto)]
+
 ghost use Rattle.std.specs.Prelude.{◌≡◌};
 ghost use Rattle.signs.specs.Signed.{signed_of, bits_of};
 

@@ -1,4 +1,6 @@
 // Sums of bytes: what closes one to 0 (01, Tongzhu: modulo 256; 01, PACE: modulo 65,536), and its low byte (01, The 58-byte monitor).
+#![tactic(auto)]
+
 ghost use Rattle.std.specs.Prelude.{◌≡◌, ◌%◌};
 ghost use Rattle.sums.specs.Sums.{total, closing, closes};
 

@@ -1,5 +1,7 @@
 // The date and time of day that Tongzhu's function 30 sets (002, 6.9.3 and 6.11; 01, Tongzhu): plain numbers, which of them are real, and the
 // six BCD bytes that carry them.
+#![tactic(auto)]
+
 ghost use Rattle.std.specs.Prelude.{◌≡◌};
 ghost use Rattle.bcd.specs.Decimal.{bcd_of, bcd_byte};
 ghost use Rattle.times_tongzhu.specs.Times.{plain_of, real, time_in, time_bytes};

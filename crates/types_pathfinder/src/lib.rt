@@ -1,4 +1,6 @@
 // The types of the rows of Pathfinder replies 01 to 04 (000, data definitions; 01, Pathfinder).
+#![tactic(auto)]
+
 ghost use Rattle.std.specs.Prelude.{◌≡◌};
 ghost use Rattle.types_pathfinder.specs.Types.{words_at, listed_at, settings, infos, type_at};
 

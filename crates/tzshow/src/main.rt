@@ -1,4 +1,6 @@
 // tzshow: reads one reply to Tongzhu's function 11 from standard input and prints it, a field to a line (01, Examples).
+#![tactic(auto)]
+
 use libc::{STDIN_FILENO, STDOUT_FILENO};
 use monitor3_tongzhu::Status;
 use payloads_tongzhu::{Answer, Monitor2};

@@ -1,4 +1,6 @@
 // The two units of a Pathfinder voltage, a type each (01, Pathfinder: "Counts of 10 mV and millivolts stay apart"), and the one call between them.
+#![tactic(auto)]
+
 ghost use Rattle.std.specs.Prelude.{◌≡◌};
 ghost use Rattle.units_pathfinder.specs.Units.{millivolts_of};
 

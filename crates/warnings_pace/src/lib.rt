@@ -1,5 +1,7 @@
 // The reply to 44, status (004, Get Status; 01, PACE).
 // INFO comes as characters; where they are no bytes that is refused first, and the rest is said of the bytes that they carry.
+#![tactic(auto)]
+
 ghost use Rattle.std.specs.Prelude.{◌≡◌, ◌≤◌};
 ghost use Rattle.characters_pace.specs.Characters.{bytes_in, checked_info};
 ghost use Rattle.warnings_pace.specs.Warnings.{status_of, nothing, with_counts, reading_of};

@@ -1,4 +1,6 @@
 // A word on the wire: a signed 32-bit number in four bytes, the low one first (000, Serial message format).
+#![tactic(auto)]
+
 ghost use Rattle.std.specs.Prelude.{◌≡◌};
 ghost use Rattle.words_pathfinder.specs.Words.{word_of, bytes_of_word};
 

@@ -1,4 +1,6 @@
 // Writing a PACE setting: the INFO of the request that writes its values, by its layout (004, "Parameter Setting" tab; 01, PACE).
+#![tactic(auto)]
+
 ghost use Rattle.std.specs.Prelude.{◌≡◌, ◌++◌, ◌*◌, length, drop, replicate};
 ghost use Rattle.layouts_pace.specs.Settings.{setting_of, amounts_of, delay_of};
 ghost use Rattle.writes_pace.specs.Info.{pairs_of, info_record};
