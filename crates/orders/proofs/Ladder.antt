@@ -3,7 +3,7 @@
 use mathlib.Core.Path.{◌≡◌}
 use mathlib.Core.Bool.{Bool, true, false, not}
 use Prim.Native.Nat.{ℕ}
-use borrow.Author.Tests.{not_true, not-false}
+use borrow.Author.Tests.{not-true, not-false}
 use Rattle.laws.specs.Choice.{pick}
 
 module _ (t : Bool) (n m l : ℕ) where
@@ -11,4 +11,4 @@ module _ (t : Bool) (n m l : ℕ) where
   held h e = rw (not-false t h) e
 
   pub failed : not t ≡ true → n ≡ l → n ≡ pick t m l
-  failed h e = rw (not_true t h) e
+  failed h e = rw (not-true t h) e

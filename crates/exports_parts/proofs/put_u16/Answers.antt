@@ -1,0 +1,35 @@
+-- `exports_parts::put_u16` meets its contract. The loop's invariant: the first i values stand from the place `at` on, all else as it was.
+-- Assumes nothing.
+use Prim.Native.Nat.{◌-◌}
+use mathlib.Core.List.{map}
+use lib.IntN.{pos}
+use lib.ListN.{length, length-map}
+use mir.Syntax.{w32}
+use Rattle.exports_parts.proofs.Placing.{Standing, none_stands, one_more, all_stand, none_placed, they_fit, none_fits}
+use Rattle.widths.proofs.Widening.{widened}
+use native.Mathlib.Omega.{arith}
+use Rattle.exports_parts.proofs.put_u16.Goals as goal
+
+pub returns-then-row-at : goal.returns-then-row-at
+returns-then-row-at c = let a = c.args in (none_fits _ _ _ (omega arith), none_placed _ a.at (map pos a.numbers.now) a.row.now (length-map a.numbers.now pos) (omega arith))
+
+pub returns-then-row-at-2 : goal.returns-then-row-at-2
+returns-then-row-at-2 c = let a = c.args in (none_fits _ _ _ (omega arith), none_placed _ a.at (map pos a.numbers.now) a.row.now (length-map a.numbers.now pos) (omega arith))
+
+pub loop-j-init : goal.loop-j-init
+loop-j-init c = let a = c.args in none_stands _ a.at (map pos a.numbers.now) a.row.now (length-map a.numbers.now pos) (omega arith)
+
+pub overflow_cast-half : goal.overflow_cast-half
+overflow_cast-half c = record { sfits = omega (arith, c.shared_slice_known-1.given c.loop-j.j) }
+
+pub loop-j-preserved : goal.loop-j-preserved
+loop-j-preserved c =
+    let l = c.loop-j in
+    let a = c.args in
+    one_more _ a.at (map pos a.numbers.now) a.row.now (length-map a.numbers.now pos) l.row l.j _ (pos 0) l.invariant (omega arith) (widened w32 a.numbers.now l.j (omega (arith, c.shared_slice_known-1.given l.j)))
+
+pub returns : goal.returns
+returns c =
+    let l = c.loop-j in
+    let a = c.args in
+    (they_fit a.at (length a.numbers.now) (length a.row.now) l.invariant.3, all_stand _ a.at (map pos a.numbers.now) a.row.now (length-map a.numbers.now pos) l.row l.j l.invariant (omega arith))
