@@ -1,13 +1,11 @@
--- `types_pathfinder::setting` meets its contract: the row that leads into an arm has its type in the definition's list; past all arms there is none.
+-- `types_pathfinder::setting` meets its contract: each row that an arm names by computing; past all arms there is none.
 -- Assumes nothing.
-use mathlib.Core.Path.{refl}
-use mathlib.Core.List.{List, [], ◌∷◌, map}
-use Prim.Native.Nat.{ℕ}
-use native.Mathlib.Omega.{arith}
+use Rattle.std.proofs.Common.{arith, refl}
+use Rattle.types_pathfinder.specs.declared.RowType.TheVariants.{NoRow}
 use Rattle.types_pathfinder.specs.Types.{settings, listed_at}
-use Rattle.laws.proofs.Tables.{from, between}
+use Rattle.laws.proofs.Tables.{along}
 use Rattle.types_pathfinder.proofs.setting.Goals as goal
 
--- what the arms name, one row each
-abbrev keys : List (List ℕ)
-keys = map (λ row. row ∷ []) (from 0 50)
+pub returns-in_default : goal.returns-in_default
+unfolding settings
+returns-in_default c = along (listed_at settings) NoRow 50 206 c.args.row refl (omega arith) (omega arith)
