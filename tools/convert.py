@@ -107,7 +107,13 @@ def turn_paths(text, chain, say):
         say(f"no step {step}")
         return "c." + step
 
-    return re.sub(r"(?<![\w.])c((?:\.before)*)\.([\w-]+)", one, text)
+    text = re.sub(r"(?<![\w.])c((?:\.before)*)\.([\w-]+)", one, text)
+    # What a match knows of its value was a fact of its own: today the arm has it.
+    arms = [p[2][1] for p in chain if re.match(r"in[-_]", p[2][1]) and not p[2][1].startswith("in_ok")]
+    if arms:
+        text = re.sub(r"c\.(?:enum_told|known|struct)[\w-]*\.given\.1", f"c.{arms[0]}.is", text)
+    text = re.sub(r"\.keys\d+\b", ".is", text)
+    return re.sub(r"(?<!own)\.rest\b", ".in_default-own.rest", text)
 
 
 def convert(crate, name, folder, said):
