@@ -6,21 +6,14 @@ use mir.Val.{SFits}
 use mir.Facts.{sfits_widen}
 use Rattle.widths.proofs.Widening.{wide_fits, wide_held}
 use borrow.Author.Rules.{rules}
-use Rattle.rows_pathfinder.proofs.wide32.Statement.{statement}
-use Rattle.rows_pathfinder.proofs.wide32.Tie as tie
+use Rattle.rows_pathfinder.proofs.wide32.Goals as goal
 
-signed32-requires : tie.Need-signed32-requires
-signed32-requires c κs = search rules
-
-cast-result : tie.Need-overflow-cast-result
-cast-result c =
+pub overflow_cast-result : goal.overflow_cast-result
+overflow_cast-result c =
     let f : SFits w32 c.signed32.result = search rules in
     wide_fits w32 w64 c.signed32.result f (sfits_widen {w = w32} tt f)
 
-returns : tie.Need-returns
+pub returns : goal.returns
 returns c =
     let f : SFits w32 c.signed32.result = search rules in
     wide_held w32 w64 c.signed32.result f (sfits_widen {w = w32} tt f) ∙ c.signed32.ensures
-
-pub wide32-spec : {M : Type 1} → statement M
-wide32-spec = tie.close (tie.spec signed32-requires cast-result returns)

@@ -6,21 +6,14 @@ use mir.Val.{SFits}
 use mir.Facts.{sfits_widen}
 use Rattle.widths.proofs.Widening.{wide_fits, wide_held}
 use borrow.Author.Rules.{rules}
-use Rattle.rows_pathfinder.proofs.wide8.Statement.{statement}
-use Rattle.rows_pathfinder.proofs.wide8.Tie as tie
+use Rattle.rows_pathfinder.proofs.wide8.Goals as goal
 
-signed8-requires : tie.Need-signed8-requires
-signed8-requires c κs = search rules
-
-cast-result : tie.Need-overflow-cast-result
-cast-result c =
+pub overflow_cast-result : goal.overflow_cast-result
+overflow_cast-result c =
     let f : SFits w8 c.signed8.result = search rules in
     wide_fits w8 w64 c.signed8.result f (sfits_widen {w = w8} tt f)
 
-returns : tie.Need-returns
+pub returns : goal.returns
 returns c =
     let f : SFits w8 c.signed8.result = search rules in
     wide_held w8 w64 c.signed8.result f (sfits_widen {w = w8} tt f) ∙ c.signed8.ensures
-
-pub wide8-spec : {M : Type 1} → statement M
-wide8-spec = tie.close (tie.spec signed8-requires cast-result returns)
