@@ -107,6 +107,12 @@ def turn_paths(text, chain, say):
         say(f"no step {step}")
         return "c." + step
 
+    # A place on the way that has a name of its own is written out.
+    while True:
+        m = re.search(r"let (\w+) = (c(?:\.before)+) in\s*", text)
+        if not m:
+            break
+        text = text[: m.start()] + re.sub(rf"(?<![\w.]){m.group(1)}(?=\.)", m.group(2), text[m.end() :])
     text = re.sub(r"(?<![\w.])c((?:\.before)*)\.([\w-]+)", one, text)
     # What a match knows of its value was a fact of its own: today the arm has it.
     arms = [p[2][1] for p in chain if re.match(r"in[-_]", p[2][1]) and not p[2][1].startswith("in_ok")]

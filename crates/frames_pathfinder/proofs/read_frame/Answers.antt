@@ -6,7 +6,7 @@ use Prim.Native.Nat.{ℕ}
 use native.Mathlib.Omega.{arith}
 use mir.Syntax.{w8}
 use mir.Facts.{Fits-widen}
-use borrow.Author.Tests.{not-true, not-false}
+use borrow.Author.Tests.{not-true, not-false, ne_eqb, eq-eqb}
 use Rattle.frames_pathfinder.proofs.Ladder.{too_short, wrong_start, wrong_length, Fitting, wrong_end, wrong_sum, taken}
 use borrow.Author.Rules.{rules}
 use Rattle.frames_pathfinder.proofs.read_frame.Goals as goal
@@ -21,40 +21,40 @@ pub overflow_add-fits : goal.overflow_add-fits
 overflow_add-fits c = omega (arith, c.shared_slice_known-3-1.given 1)
 
 pub returns-then-not-starts : goal.returns-then-not-starts
-returns-then-not-starts c = c.refused-then-not-starts.ensures ∙ wrong_start _ (search rules) (not-true _ c.if-not-starts.true)
+returns-then-not-starts c = c.refused-then-not-starts.ensures ∙ wrong_start _ (search rules) (ne_eqb _ _ c.if-not-starts.true)
 
 pub returns-then-not-fits : goal.returns-then-not-fits
 returns-then-not-fits c =
     c.refused-then-not-fits.ensures
-    ∙ wrong_length _ (search rules) (not-false _ c.if-not-starts.false) (not-true _ c.if-not-fits.true)
+    ∙ wrong_length _ (search rules) (eq-eqb _ _ c.if-not-starts.false) (ne_eqb _ _ c.if-not-fits.true)
 
 pub returns-then-not-ends : goal.returns-then-not-ends
 returns-then-not-ends c =
     let f : Fitting c.args.s.now =
     record {
       long = search rules;
-      starts = not-false _ c.if-not-starts.false;
-      fits = not-false _ c.if-not-fits.false;
+      starts = eq-eqb _ _ c.if-not-starts.false;
+      fits = eq-eqb _ _ c.if-not-fits.false;
     } in
-    c.refused-then-not-ends.ensures ∙ wrong_end _ f (not-true _ c.if-not-ends.true)
+    c.refused-then-not-ends.ensures ∙ wrong_end _ f (ne_eqb _ _ c.if-not-ends.true)
 
 pub returns-then-not-closes : goal.returns-then-not-closes
 returns-then-not-closes c =
     let f : Fitting c.args.s.now =
     record {
       long = search rules;
-      starts = not-false _ c.if-not-starts.false;
-      fits = not-false _ c.if-not-fits.false;
+      starts = eq-eqb _ _ c.if-not-starts.false;
+      fits = eq-eqb _ _ c.if-not-fits.false;
     } in
     c.refused-then-not-closes.ensures
-    ∙ wrong_sum _ f (not-false _ c.if-not-ends.false) (sym c.has_sum-closes.ensures ∙ not-true _ c.if-not-closes.true)
+    ∙ wrong_sum _ f (eq-eqb _ _ c.if-not-ends.false) (sym c.has_sum-closes.ensures ∙ c.if-not-closes.true)
 
 pub returns : goal.returns
 returns c =
     let f : Fitting c.args.s.now =
     record {
       long = search rules;
-      starts = not-false _ c.if-not-starts.false;
-      fits = not-false _ c.if-not-fits.false;
+      starts = eq-eqb _ _ c.if-not-starts.false;
+      fits = eq-eqb _ _ c.if-not-fits.false;
     } in
-    taken _ f (not-false _ c.if-not-ends.false) (sym c.has_sum-closes.ensures ∙ not-false _ c.if-not-closes.false)
+    taken _ f (eq-eqb _ _ c.if-not-ends.false) (sym c.has_sum-closes.ensures ∙ c.if-not-closes.false)

@@ -55,9 +55,8 @@ loop-i-smaller c = omega arith
 
 pub loop-i-preserved : goal.loop-i-preserved
 loop-i-preserved c =
-    let turn = c.before in
-    let l = turn.before.loop in
-    let a = turn.before.before.before.args in
+    let l = c.loop-i in
+    let a = c.args in
     let e : to_z w32 (of_z w32 c.word.result) ≡ c.word.result = search rules in (
       omega arith,
       firsts_more (word_at a.s.now) a.row.now l.row l.i _ l.invariant.1 (omega arith) (e ∙ c.word.ensures),

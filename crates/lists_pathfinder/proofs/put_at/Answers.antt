@@ -10,8 +10,7 @@ use Rattle.lists_pathfinder.proofs.put_at.Goals as goal
 
 pub returns : goal.returns
 returns c =
-    let start = c.before in
-    let a = start.args in
+    let a = c.args in
     let w = c.word_bytes in
-    let e : w.result ≡ bytes_of_word a.v = w.ensures ∙ ap bytes_of_word (to_z-of_z w32 a.v start.ranges.v) in
-    part_put a.v a.at a.out.now _ (c.copy_from_slice.ensures.1 ∙ copied w.result _ (search rules) ∙ e)
+    let e : w.result ≡ bytes_of_word a.v = w.ensures ∙ ap bytes_of_word (to_z-of_z w32 a.v c.ranges.v) in
+    part_put a.v a.at a.out.now _ (c.copy_from_slice.ensures.after ∙ e)
