@@ -6,8 +6,7 @@ use Prim.Native.Nat.{ℕ, ◌*◌, ◌/◌, ◌%◌}
 use native.Mathlib.Omega.{arith}
 use borrow.Author.Tests.{eq-eqb, ne_eqb, eqb-true, eqb-false}
 use lib.Dec.{eqb}
-use Rattle.records_pathfinder.proofs.is_sized.Statement.{statement}
-use Rattle.records_pathfinder.proofs.is_sized.Tie as tie
+use Rattle.records_pathfinder.proofs.is_sized.Goals as goal
 
 divided : (n len : ℕ) → len % 4 ≡ 0 → eqb (len / 4) n ≡ eqb len (4 * n)
 divided n len z = go (eqb (len / 4) n) refl
@@ -16,11 +15,8 @@ divided n len z = go (eqb (len / 4) n) refl
     go true e = sym (eq-eqb len (4 * n) (omega (arith, eqb-true (len / 4) n e)))
     go false e = sym (ne_eqb len (4 * n) (λ q. eqb-false (len / 4) n e (omega arith)))
 
-returns : tie.Need-returns
-returns c = let a = c.before.args in sym (ne_eqb a.len (4 * a.n) (λ e. c.if1.true (omega arith)))
+pub returns-then-len-ne0 : goal.returns-then-len-ne0
+returns-then-len-ne0 c = let a = c.args in sym (ne_eqb a.len (4 * a.n) (λ e. c.if-len-ne0.true (omega arith)))
 
-returns-2 : tie.Need-returns-2
-returns-2 c = divided _ _ c.if1.false
-
-pub is-sized-spec : {M : Type 1} → statement M
-is-sized-spec = tie.close (tie.spec returns returns-2)
+pub returns : goal.returns
+returns c = divided _ _ c.if-len-ne0.false
