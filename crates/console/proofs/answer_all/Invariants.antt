@@ -1,3 +1,5 @@
+-- `console::answer_all` is safe and ends: each turn starts behind a line that ended, and each room keeps its length.
+-- Assumes nothing.
 use Rattle.std.proofs.Common.{length, ◌-◌, ◌≤◌}
 use Rattle.console.proofs.answer_all.Given as goal
 

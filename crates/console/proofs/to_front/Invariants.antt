@@ -1,3 +1,5 @@
+-- `console::to_front` is safe and ends: a byte goes to a place that is not behind its own, and the input keeps its length.
+-- Assumes nothing.
 use Rattle.std.proofs.Common.{◌-◌, ◌≤◌}
 use Rattle.console.proofs.to_front.Given as goal
 

@@ -1,3 +1,5 @@
+-- `tzshow::read_full` is safe and ends, and its number is at most the room's: each turn but the last reads one byte or more.
+-- Assumes nothing.
 use Rattle.std.proofs.Common.{length, ◌-◌, ◌≤◌}
 use Rattle.tzshow.proofs.read_full.Given as goal
 

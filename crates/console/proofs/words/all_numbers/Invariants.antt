@@ -1,3 +1,5 @@
+-- `console::words::all_numbers` is safe and ends: each turn starts further on in the word.
+-- Assumes nothing.
 use Rattle.std.proofs.Common.{length, ◌+◌, ◌-◌}
 use Rattle.console.proofs.words.all_numbers.Given as goal
 

@@ -1,3 +1,5 @@
+-- `console::words::past` is safe and ends. The loop keeps its place between the start and the end.
+-- Assumes nothing.
 use Rattle.std.proofs.Common.{length, ◌-◌, ◌≤◌}
 use Rattle.console.proofs.words.past.Given as goal
 

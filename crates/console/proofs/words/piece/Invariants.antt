@@ -1,3 +1,5 @@
+-- `console::words::piece` is safe and ends: the measure is the number of pieces still to pass, and its start stays within the bytes.
+-- Assumes nothing.
 use Rattle.std.proofs.Common.{length, ◌≤◌}
 use Rattle.console.proofs.words.piece.Given as goal
 

@@ -1,3 +1,5 @@
+-- `console::words::size` is safe and ends: the measure is what is left of the digits.
+-- Assumes nothing.
 use Rattle.std.proofs.Common.{length, ◌-◌}
 use Rattle.console.proofs.words.size.Given as goal
 

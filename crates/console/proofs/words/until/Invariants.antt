@@ -1,3 +1,5 @@
+-- `console::words::until` is safe and ends. The loop keeps its place between the start and the end.
+-- Assumes nothing.
 use Rattle.std.proofs.Common.{length, ◌-◌, ◌≤◌}
 use Rattle.console.proofs.words.until.Given as goal
 
