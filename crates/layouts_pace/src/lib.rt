@@ -30,6 +30,7 @@ pub struct Layout {
     pub delay_step: u8,
 }
 
+#[tactic(auto, unfolding(crate::specs::Settings::layout_of))]
 pub fn layout_of(setting: Setting) -> Layout
     ensures { result ≡ layout_of setting }
 {
