@@ -9,8 +9,7 @@ use Rattle.digits.specs.Hexes.{digit_of}
 use Rattle.laws.specs.Choice.{pick}
 use Rattle.characters_pace.specs.Characters.{is_value}
 use borrow.Author.Rules.{rules}
-use Rattle.faults_pace.proofs.noted.Statement.{statement}
-use Rattle.faults_pace.proofs.noted.Tie as tie
+use Rattle.faults_pace.proofs.noted.Goals as goal
 
 -- two bits, one of which says that a test failed
 either : (a : ℕ) (t : Bool) → a < 2 → bit_or a (pick t 0 1) ≡ pick t a 1
@@ -20,11 +19,5 @@ either (suc zero) true h = refl
 either (suc zero) false h = refl
 either (suc (suc n)) t h = absurd (omega (arith, h))
 
-mark-requires : tie.Need-mark-requires
-mark-requires c κs = search rules
-
-returns : tie.Need-returns
-returns c = rw c.mark.ensures (either c.before.args.wrong (is_value (digit_of c.before.args.c)) (search rules))
-
-pub noted-spec : {M : Type 1} → statement M
-noted-spec = tie.close (tie.spec mark-requires returns)
+pub returns : goal.returns
+returns c = rw c.mark.ensures (either c.args.wrong (is_value (digit_of c.args.c)) (search rules))
