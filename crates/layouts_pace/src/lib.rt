@@ -5,7 +5,7 @@ ghost use Rattle.std.specs.Prelude.{◌≡◌};
 ghost use Rattle.layouts_pace.specs.Settings.{layout_of, values_of};
 
 // What can be read and written.
-#[derive(Drop)]
+#[derive(Clone, Copy)]
 pub enum Setting {
     Overvoltage,
     Discharge,
