@@ -12,7 +12,7 @@ pub enum Setting {
 }
 
 // How a setting is read and written.
-#[derive(Drop)]
+#[derive(Clone, Copy)]
 pub struct Layout {
     // The commands that read and write it.
     pub reads: u8,
@@ -65,7 +65,7 @@ pub fn layout_of(setting: Setting) -> Layout
 }
 
 // The values of a setting, by name.
-#[derive(Drop)]
+#[derive(Clone, Copy)]
 pub enum Values {
     CellOvervoltage {
         alarm_mv: u16,
