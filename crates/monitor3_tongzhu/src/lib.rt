@@ -11,7 +11,7 @@ use refusals::{Refusal, refuse};
 use signs::signed16;
 
 // The battery status (6.1.3.1), byte by byte.
-#[derive(Drop)]
+#[derive(Clone, Copy)]
 pub struct Status {
     pub first: u8,
     pub second: u8,
@@ -20,7 +20,7 @@ pub struct Status {
 }
 
 // What function 12 tells (6.1.3), but for its lists.
-#[derive(Drop)]
+#[derive(Clone, Copy)]
 pub struct Monitor3 {
     pub status: Status,
     // In 0.1 A, charging positive.

@@ -12,7 +12,7 @@ use refusals::{Refusal, refuse};
 use signs::{signed8, signed16};
 
 // What function 11 tells (6.2.3).
-#[derive(Drop)]
+#[derive(Clone, Copy)]
 pub struct Monitor2 {
     pub status: Status,
     // In 0.1 A, charging positive.
@@ -33,7 +33,7 @@ pub struct Monitor2 {
 }
 
 // What a reply says. A monitor 3's lists stand beside it.
-#[derive(Drop)]
+#[derive(Clone, Copy)]
 pub enum Answer {
     Monitor2(Monitor2),
     Monitor3(Monitor3),
