@@ -64,6 +64,15 @@ def tokens(text, names):
     return re.sub(rf"(?<![\w'.₀-₉-])(?:{words})(?![\w'₀-₉-])", lambda m: names[m.group()], text)
 
 
+def spelled_out(text):
+    """A place on the way that has a name of its own is written out."""
+    while True:
+        m = re.search(r"let (\w+) = (c(?:\.before)+) in\s*", text)
+        if not m:
+            return text
+        text = text[: m.start()] + re.sub(rf"(?<![\w.]){m.group(1)}(?![\w'-])", m.group(2), text[m.end() :])
+
+
 class Function:
     def __init__(self, said):
         self.needs = [tuple(n) for n in said["needs"]]
@@ -107,7 +116,13 @@ def turn_paths(text, chain, say):
         say(f"no step {step}")
         return "c." + step
 
-    return re.sub(r"(?<![\w.])c((?:\.before)*)\.([\w-]+)", one, text)
+    text = re.sub(r"(?<![\w.])c((?:\.before)*)\.([\w-]+)", one, text)
+    # What a match knows of its value was a fact of its own: today the arm has it.
+    arms = [p[2][1] for p in chain if re.match(r"in[-_]", p[2][1]) and not p[2][1].startswith("in_ok")]
+    if arms:
+        text = re.sub(r"c\.(?:enum_told|known|struct)[\w-]*\.given\.1", f"c.{arms[0]}.is", text)
+    text = re.sub(r"\.keys\d+\b", ".is", text)
+    return re.sub(r"(?<!own)\.rest\b", ".in_default-own.rest", text)
 
 
 def convert(crate, name, folder, said):
@@ -124,6 +139,35 @@ def convert(crate, name, folder, said):
     uses = [u for u in uses if not re.search(r"\.(Statement|Tie)\b", u)]
     answers, invariants = [], []
     spec = None
+    helpers, kept_parts = {}, []
+    for part in parts:
+        own = declared(part)
+        code = "\n".join(x for x in part if not x.startswith("--"))
+        m = re.match(r"(?:abbrev )?(\S+) :\s+(?:\(c : tie\.\S+\)|tie\.\S+)\s+→\s+(.*?)\n(unfolding[^\n]*\n)?\1 c =\s*(.*)$", code, re.S) if own and "Need-" not in code.split("=")[0] else None
+        if m:
+            helpers[own] = (m.group(2), m.group(3) or "", spelled_out(m.group(4).strip()))
+        else:
+            kept_parts.append(part)
+    parts = kept_parts
+
+    def written_out(text):
+        """A helper over a place of the walk is written where it was cited."""
+        unfold = ""
+        for _ in range(6):
+            before = text
+            for name, (typ, unf, expr) in helpers.items():
+                def put(t, path):
+                    return re.sub(r"(?<![\w.])c(?=[.\s)])", path, t + " ").rstrip()
+
+                new = re.sub(rf"let (\w+) = {re.escape(name)} (c(?:\.before)*) in", lambda m: f"let {m.group(1)} : {put(typ, m.group(2))} = {put(expr, m.group(2))} in", text)
+                new = re.sub(rf"(?<![\w.'-]){re.escape(name)} \(?(c(?:\.before)*)(?![\w.-])\)?" if False else rf"(?<![\w.'-]){re.escape(name)} (c(?:\.before)*)(?![\w.-])", lambda m: f"({put(expr, m.group(1))})", new)
+                if new != text and unf:
+                    unfold += " " + unf.strip()[len("unfolding "):]
+                text = new
+            if text == before:
+                break
+        return text, unfold.strip()
+
     order = 0
     for part in parts:
         own = declared(part)
@@ -177,6 +221,9 @@ def convert(crate, name, folder, said):
                 new, chain = own, [p for p in func.places.values()]
             else:
                 chain = func.chain(func.at[k][0]) if k < len(func.at) else []
+            rest, unfold = written_out(spelled_out(rest))
+            if unfold:
+                rest = re.sub(r"^unfolding ", f"unfolding {unfold} ", rest) if rest.startswith("unfolding ") else f"unfolding {unfold}\n{rest}"
             rest = turn_paths(rest, chain, say)
             rest = re.sub(rf"(?<![\w.-]){re.escape(own)}(?![\w-])", new, rest)
             rest = re.sub(rf"^({re.escape(new)}) c κs =", r"\1 c =", rest, flags=re.M)

@@ -62,5 +62,5 @@ fn put_at(v: i32, at: usize, out: &mut [u8])
     requires { at + 4 ≤ length out.old }
     ensures { out.new ≡ one_at v at out.old }
 {
-    bytes::copy(&word_bytes(v), &mut out[at..at + 4]);
+    out[at..at + 4].copy_from_slice(&word_bytes(v));
 }

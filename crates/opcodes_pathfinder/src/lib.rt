@@ -25,6 +25,7 @@ pub enum Shape {
 }
 
 // Sorts a reply to the request `asked` by its opcode.
+#[tactic(auto, unfolding(crate::specs::Opcodes::kind_of, crate::specs::Opcodes::is_failure, crate::specs::Opcodes::is_listed))]
 pub fn kind_of(asked: u8, opcode: u8) -> Kind
     ensures { result ≡ kind_of asked opcode }
 {
@@ -48,6 +49,7 @@ pub fn kind_of(asked: u8, opcode: u8) -> Kind
 }
 
 // Whether there is such a request.
+#[tactic(auto, unfolding(crate::specs::Opcodes::is_listed))]
 fn is_listed(asked: u8) -> bool
     ensures { result ≡ is_listed asked }
 {
@@ -58,6 +60,7 @@ fn is_listed(asked: u8) -> bool
 }
 
 // What the reply to a request holds.
+#[tactic(auto, unfolding(crate::specs::Opcodes::shape_of))]
 pub fn shape_of(asked: u8) -> Shape
     ensures { result ≡ shape_of asked }
 {

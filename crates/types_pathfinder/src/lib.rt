@@ -27,6 +27,7 @@ pub enum RowType {
 }
 
 // The type of a row of a reply.
+#[tactic(auto, unfolding(crate::specs::Types::type_at))]
 pub fn row_type(reply: u8, row: u8) -> RowType
     ensures { result ≡ type_at reply row }
 {
@@ -50,6 +51,7 @@ fn words(row: u8, count: u8) -> RowType
 }
 
 // Reply 02.
+#[tactic(auto, unfolding(crate::specs::Types::settings))]
 fn setting(row: u8) -> RowType
     ensures { result ≡ listed_at settings row }
 {
@@ -109,6 +111,7 @@ fn setting(row: u8) -> RowType
 }
 
 // Reply 03.
+#[tactic(auto, unfolding(crate::specs::Types::infos))]
 fn info(row: u8) -> RowType
     ensures { result ≡ listed_at infos row }
 {

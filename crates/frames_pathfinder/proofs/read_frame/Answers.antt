@@ -1,0 +1,60 @@
+-- `frames_pathfinder::read_frame` meets its contract: each way out is a law of the ladder, from the tests that led there.
+-- Assumes nothing.
+use mathlib.Core.Path.{sym, ◌∙◌}
+use mathlib.Core.List.{List}
+use Prim.Native.Nat.{ℕ}
+use native.Mathlib.Omega.{arith}
+use mir.Syntax.{w8}
+use mir.Facts.{Fits-widen}
+use borrow.Author.Tests.{not-true, not-false, ne_eqb, eq-eqb}
+use Rattle.frames_pathfinder.proofs.Ladder.{too_short, wrong_start, wrong_length, Fitting, wrong_end, wrong_sum, taken}
+use borrow.Author.Rules.{rules}
+use Rattle.frames_pathfinder.proofs.read_frame.Goals as goal
+
+pub returns-then-s-lt6 : goal.returns-then-s-lt6
+returns-then-s-lt6 c = c.refused.ensures ∙ too_short _ (search rules)
+
+pub overflow_cast-fits : goal.overflow_cast-fits
+overflow_cast-fits c = Fits-widen {w = w8} tt (c.shared_slice_known-3-1.given _)
+
+pub overflow_add-fits : goal.overflow_add-fits
+overflow_add-fits c = omega (arith, c.shared_slice_known-3-1.given 1)
+
+pub returns-then-not-starts : goal.returns-then-not-starts
+returns-then-not-starts c = c.refused-then-not-starts.ensures ∙ wrong_start _ (search rules) (ne_eqb _ _ c.if-not-starts.true)
+
+pub returns-then-not-fits : goal.returns-then-not-fits
+returns-then-not-fits c =
+    c.refused-then-not-fits.ensures
+    ∙ wrong_length _ (search rules) (eq-eqb _ _ c.if-not-starts.false) (ne_eqb _ _ c.if-not-fits.true)
+
+pub returns-then-not-ends : goal.returns-then-not-ends
+returns-then-not-ends c =
+    let f : Fitting c.args.s.now =
+    record {
+      long = search rules;
+      starts = eq-eqb _ _ c.if-not-starts.false;
+      fits = eq-eqb _ _ c.if-not-fits.false;
+    } in
+    c.refused-then-not-ends.ensures ∙ wrong_end _ f (ne_eqb _ _ c.if-not-ends.true)
+
+pub returns-then-not-closes : goal.returns-then-not-closes
+returns-then-not-closes c =
+    let f : Fitting c.args.s.now =
+    record {
+      long = search rules;
+      starts = eq-eqb _ _ c.if-not-starts.false;
+      fits = eq-eqb _ _ c.if-not-fits.false;
+    } in
+    c.refused-then-not-closes.ensures
+    ∙ wrong_sum _ f (eq-eqb _ _ c.if-not-ends.false) (sym c.has_sum-closes.ensures ∙ c.if-not-closes.true)
+
+pub returns : goal.returns
+returns c =
+    let f : Fitting c.args.s.now =
+    record {
+      long = search rules;
+      starts = eq-eqb _ _ c.if-not-starts.false;
+      fits = eq-eqb _ _ c.if-not-fits.false;
+    } in
+    taken _ f (eq-eqb _ _ c.if-not-ends.false) (sym c.has_sum-closes.ensures ∙ c.if-not-closes.false)
