@@ -10,6 +10,7 @@ use numbers::{Order, number16};
 use signs::signed8;
 
 // Reads the lists of the fields of function 12 that take all of a payload from the place `at` on; where the fields are of the wrong shape, all are 0.
+#[tactic(auto, using(monitor3_tongzhu::proofs::Shapes::places_within))]
 pub fn read_lists(p: &[u8], at: usize) -> Lists
     ensures { result ≡ lists_at p.now at }
 {
@@ -17,6 +18,7 @@ pub fn read_lists(p: &[u8], at: usize) -> Lists
     lists_in(p, w)
 }
 
+#[tactic(auto, unfolding(monitor3_tongzhu::specs::Layout::lists_in))]
 fn lists_in(p: &[u8], w: Places) -> Lists
     requires { Within (length p.now) w }
     ensures { result ≡ lists_in p.now w }
@@ -45,6 +47,7 @@ pub fn no_lists() -> Lists
 }
 
 // n cell voltages from the place `from` on.
+#[tactic(auto, unfolding(laws::specs::Firsts::firsts))]
 fn cells_of(q: &[u8], from: usize, n: usize) -> [u16; 32]
     requires { (n ≤ 32) × (from + 2 * n ≤ length q.now) }
     ensures { result ≡ places_of 32 0 (λ i. number_at q.now (from + 2 * i)) n }
@@ -60,6 +63,7 @@ fn cells_of(q: &[u8], from: usize, n: usize) -> [u16; 32]
 }
 
 // n bytes of the balanced state from the place `from` on.
+#[tactic(auto, unfolding(laws::specs::Firsts::firsts))]
 fn flags_of(q: &[u8], from: usize, n: usize) -> [u8; 4]
     requires { (n ≤ 4) × (from + n ≤ length q.now) }
     ensures { result ≡ places_of 4 0 (λ i. get_or q.now (from + i) 0) n }
@@ -74,6 +78,7 @@ fn flags_of(q: &[u8], from: usize, n: usize) -> [u8; 4]
 }
 
 // n temperatures from the place `from` on.
+#[tactic(auto, unfolding(laws::specs::Firsts::firsts))]
 fn temperatures_of(q: &[u8], from: usize, n: usize) -> [i8; 16]
     requires { (n ≤ 16) × (from + n ≤ length q.now) }
     ensures { result ≡ places_of 16 (pos 0) (λ i. temperature_at q.now (from + i)) n }

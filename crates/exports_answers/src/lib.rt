@@ -46,6 +46,6 @@ pub fn put_text(kind: u8, text: &[u8], out: &mut [u8]) -> u64
     if out.len() < text.len() {
         return refusals::ROOM as u64;
     }
-    bytes::copy(text, out);
+    out[..text.len()].copy_from_slice(text);
     coded(kind, text.len())
 }

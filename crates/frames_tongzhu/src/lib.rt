@@ -22,6 +22,7 @@ pub enum Frame {
 }
 
 // Reads a frame, a reply's or a request's.
+#[tactic(auto, using(crate::proofs::Ladder::check_test), unfolding(crate::specs::Reading::frame_of))]
 pub fn read_frame(s: &[u8]) -> Frame
     ensures { result ≡ frame_of s.now }
 {

@@ -16,6 +16,7 @@ pub enum Kind {
 }
 
 // The functions of document 01.
+#[tactic(auto, unfolding(crate::specs::Functions::kind_of))]
 pub fn kind_of(function: u8) -> Kind
     ensures { result ≡ kind_of function }
 {

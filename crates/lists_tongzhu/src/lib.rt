@@ -14,6 +14,7 @@ use signs::signed8;
 
 // Puts the lists of a monitor 3 with this payload into the row, behind the places of its numbers, and answers 0; where the row has fewer than 80
 // places it stays as it was, and 11 is answered.
+#[tactic(auto, unfolding(exports_parts::specs::Parts::fit_code, crate::specs::Lists::listed))]
 pub fn put_lists(p: &[u8], row: &mut [i32]) -> u8
     ensures answer { result ≡ fit_code 12 68 (length row.old) }
     ensures filled { row.new ≡ listed (lists_at p.now 0) row.old }
@@ -25,6 +26,7 @@ pub fn put_lists(p: &[u8], row: &mut [i32]) -> u8
     0
 }
 
+#[tactic(auto, using(monitor3_tongzhu::proofs::Shapes::places_within, crate::proofs::Filled::part_room), unfolding(monitor3_tongzhu::specs::Layout::lists_in))]
 fn fill(p: &[u8], row: &mut [i32])
     requires { 80 ≤ length row.old }
     ensures { row.new ≡ placed_lists (lists_at p.now 0) row.old }
@@ -37,6 +39,7 @@ fn fill(p: &[u8], row: &mut [i32])
 }
 
 // n voltages from the place `from` on, 0 past them.
+#[tactic(auto, unfolding(laws::specs::Firsts::firsts))]
 fn put_voltages(p: &[u8], from: usize, n: usize, row: &mut [i32])
     requires { (n ≤ length row.old) × (from + 2 * n ≤ length p.now) }
     ensures { row.new ≡ places_of (length row.old) (pos 0) (λ i. pos (number_at p.now (from + 2 * i))) n }
@@ -50,6 +53,7 @@ fn put_voltages(p: &[u8], from: usize, n: usize, row: &mut [i32])
 }
 
 // n bytes of the balanced state from the place `from` on, 0 past them.
+#[tactic(auto, unfolding(laws::specs::Firsts::firsts))]
 fn put_flags(p: &[u8], from: usize, n: usize, row: &mut [i32])
     requires { (n ≤ length row.old) × (from + n ≤ length p.now) }
     ensures { row.new ≡ places_of (length row.old) (pos 0) (λ i. pos (get_or p.now (from + i) 0)) n }
@@ -63,6 +67,7 @@ fn put_flags(p: &[u8], from: usize, n: usize, row: &mut [i32])
 }
 
 // n temperatures from the place `from` on, 0 past them.
+#[tactic(auto, unfolding(laws::specs::Firsts::firsts))]
 fn put_temperatures(p: &[u8], from: usize, n: usize, row: &mut [i32])
     requires { (n ≤ length row.old) × (from + n ≤ length p.now) }
     ensures { row.new ≡ places_of (length row.old) (pos 0) (λ i. temperature_at p.now (from + i)) n }
@@ -85,6 +90,7 @@ fn clear_past(n: usize, row: &mut [i32])
     }
 }
 
+#[tactic(auto, unfolding(laws::specs::Firsts::firsts))]
 fn clear(row: &mut [i32])
     ensures { row.new ≡ replicate (length row.old) (pos 0) }
 {

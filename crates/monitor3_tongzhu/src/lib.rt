@@ -11,7 +11,7 @@ use refusals::{Refusal, refuse};
 use signs::signed16;
 
 // The battery status (6.1.3.1), byte by byte.
-#[derive(Drop)]
+#[derive(Clone, Copy)]
 pub struct Status {
     pub first: u8,
     pub second: u8,
@@ -20,7 +20,7 @@ pub struct Status {
 }
 
 // What function 12 tells (6.1.3), but for its lists.
-#[derive(Drop)]
+#[derive(Clone, Copy)]
 pub struct Monitor3 {
     pub status: Status,
     // In 0.1 A, charging positive.
@@ -84,6 +84,7 @@ enum Shape {
 }
 
 // Reads the numbers of the fields of function 12 that take all of a payload from the place `at` on.
+#[tactic(auto, using(crate::proofs::Shapes::from_there, crate::proofs::Shapes::found_beyond), unfolding(crate::specs::Layout::found_at))]
 pub fn read_numbers(p: &[u8], at: usize) -> Found
     ensures { result ≡ found_at p.now at }
 {
@@ -94,6 +95,7 @@ pub fn read_numbers(p: &[u8], at: usize) -> Found
 }
 
 // The numbers of the fields that are the whole of q.
+#[tactic(auto, using(crate::proofs::Shapes::counted_shaped), unfolding(crate::specs::Layout::found_of))]
 fn numbers_of(q: &[u8]) -> Found
     ensures { result ≡ found_of q.now }
 {
@@ -105,6 +107,7 @@ fn numbers_of(q: &[u8]) -> Found
 }
 
 // Says where their lists stand.
+#[tactic(auto, using(crate::proofs::Shapes::counted_shaped, crate::proofs::Shapes::from_there, crate::proofs::Shapes::places_beyond), unfolding(crate::specs::Layout::places_at))]
 pub fn find_lists(p: &[u8], at: usize) -> Places
     ensures { result ≡ places_at p.now at }
 {
@@ -153,6 +156,7 @@ fn places_by(at: usize, k: Counts) -> Places
 }
 
 // Looks the counts up and tests them against their limits and the number of bytes.
+#[tactic(auto, unfolding(crate::specs::Layout::shape_of))]
 fn shape_of(q: &[u8]) -> Shape
     ensures { result ≡ shape_of q.now }
 {
@@ -184,6 +188,7 @@ fn shape_of(q: &[u8]) -> Shape
 }
 
 // The numbers of function 12.
+#[tactic(auto, unfolding(crate::specs::Layout::monitor3_of))]
 fn monitor3_of(q: &[u8], k: Counts) -> Monitor3
     requires { Shaped (length q.now) k }
     ensures { result ≡ monitor3_of q.now k }

@@ -12,7 +12,7 @@ use refusals::{Refusal, refuse};
 use signs::{signed8, signed16};
 
 // What function 11 tells (6.2.3).
-#[derive(Drop)]
+#[derive(Clone, Copy)]
 pub struct Monitor2 {
     pub status: Status,
     // In 0.1 A, charging positive.
@@ -33,7 +33,7 @@ pub struct Monitor2 {
 }
 
 // What a reply says. A monitor 3's lists stand beside it.
-#[derive(Drop)]
+#[derive(Clone, Copy)]
 pub enum Answer {
     Monitor2(Monitor2),
     Monitor3(Monitor3),
@@ -48,6 +48,7 @@ pub enum Answer {
 }
 
 // Reads the payload by its function; 7 where this is none of them.
+#[tactic(auto, unfolding(crate::specs::Payloads::payload_of))]
 pub fn read_payload(function: u8, p: &[u8]) -> Answer
     ensures { result ≡ payload_of function p.now }
 {
@@ -62,6 +63,7 @@ pub fn read_payload(function: u8, p: &[u8]) -> Answer
 }
 
 // Function 11.
+#[tactic(auto, unfolding(crate::specs::Payloads::sized, crate::specs::Payloads::monitor2_of))]
 fn read_monitor2(p: &[u8]) -> Answer
     ensures { result ≡ sized 21 p.now (Answer.Monitor2 (monitor2_of p.now)) }
 {
@@ -71,6 +73,7 @@ fn read_monitor2(p: &[u8]) -> Answer
     Answer::Monitor2(monitor2_of(p))
 }
 
+#[tactic(auto, unfolding(crate::specs::Payloads::monitor2_of))]
 fn monitor2_of(p: &[u8]) -> Monitor2
     requires { length p.now ≡ 21 }
     ensures { result ≡ monitor2_of p.now }
@@ -102,6 +105,7 @@ fn read_monitor3(p: &[u8]) -> Answer
 }
 
 // Function 14.
+#[tactic(auto, unfolding(crate::specs::Payloads::sized))]
 fn read_status(p: &[u8]) -> Answer
     ensures { result ≡ sized 4 p.now (Answer.Status (status_at p.now 0)) }
 {
@@ -125,6 +129,7 @@ fn status_of(p: &[u8]) -> Status
 }
 
 // Function 15.
+#[tactic(auto, unfolding(crate::specs::Payloads::sized))]
 fn read_current(p: &[u8]) -> Answer
     ensures { result ≡ sized 2 p.now (Answer.Current (current_at p.now 0)) }
 {
@@ -135,6 +140,7 @@ fn read_current(p: &[u8]) -> Answer
 }
 
 // Function 30.
+#[tactic(auto, unfolding(crate::specs::Payloads::sized, crate::specs::Payloads::done_of))]
 fn read_done(p: &[u8]) -> Answer
     ensures { result ≡ sized 1 p.now (done_of (get_or p.now 0 0)) }
 {

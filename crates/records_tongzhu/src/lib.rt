@@ -30,6 +30,7 @@ enum Sort {
 }
 
 // Reads the reply to the function `asked`.
+#[tactic(auto, using(frames_tongzhu::proofs::Ladder::whole_parts, crate::proofs::Answers::no_frame, crate::proofs::Answers::whole_frame), unfolding(crate::specs::Replies::reply_of))]
 pub fn read_reply(asked: u8, s: &[u8]) -> Reply
     ensures { result ≡ reply_of asked s.now }
 {
@@ -69,6 +70,7 @@ fn lists_beside(answer: Answer, p: &[u8]) -> Lists
 }
 
 // The answer that a whole frame with this function and this payload is.
+#[tactic(auto, unfolding(crate::specs::Replies::answer_to))]
 pub fn answer_to(asked: u8, function: u8, p: &[u8]) -> Answer
     ensures { result ≡ answer_to asked function p.now }
 {
@@ -108,6 +110,7 @@ fn is_listed(k: Kind) -> bool
 }
 
 // The device error has no payload.
+#[tactic(auto, unfolding(payloads_tongzhu::specs::Payloads::sized))]
 fn error_in(p: &[u8]) -> Answer
     ensures { result ≡ sized 0 p.now Answer.DeviceError }
 {

@@ -19,6 +19,7 @@ pub enum Parsed {
 }
 
 // Reads a request.
+#[tactic(auto, using(frames_tongzhu::proofs::Ladder::whole_parts, crate::proofs::Parsing::no_frame, crate::proofs::Parsing::whole_frame), unfolding(crate::specs::Reading::parsed_of))]
 pub fn read_request(s: &[u8]) -> Parsed
     ensures { result ≡ parsed_of s.now }
 {
@@ -34,6 +35,7 @@ pub fn read_request(s: &[u8]) -> Parsed
 }
 
 // The request of a whole frame with this function and this payload.
+#[tactic(auto, unfolding(crate::specs::Reading::payload_in))]
 fn payload_in(function: u8, p: &[u8]) -> Parsed
     ensures { result ≡ payload_in function p.now }
 {
@@ -55,6 +57,7 @@ fn payload_in(function: u8, p: &[u8]) -> Parsed
     }
 }
 
+#[tactic(auto, unfolding(crate::specs::Reading::time_request))]
 fn time_request(t: Time) -> Parsed
     ensures { result ≡ time_request t }
 {

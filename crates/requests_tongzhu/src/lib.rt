@@ -56,6 +56,7 @@ fn write_time(t: Time, out: &mut [u8]) -> Written
 }
 
 // The refusal that a time meets before any room is looked at, or 0.
+#[tactic(auto, unfolding(crate::specs::Requests::fault_of))]
 fn fault_of_time(t: Time) -> u8
     ensures { result ≡ fault_of (Request.SetTime t) }
 {

@@ -10,7 +10,7 @@ use bcd::{Bcd, read_bcd, write_bcd};
 use calendar::{is_date, is_time};
 
 // A date and a time of day, as plain numbers.
-#[derive(Drop)]
+#[derive(Clone, Copy)]
 pub struct Time {
     // 0 to 99, from 2000 on.
     pub year: u8,

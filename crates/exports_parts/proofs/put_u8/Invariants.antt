@@ -3,11 +3,8 @@
 use Prim.Native.Nat.{◌-◌}
 use mathlib.Core.List.{map}
 use lib.IntN.{pos}
-use lib.ListN.{length, length-map}
-use mir.Syntax.{w32}
-use Rattle.exports_parts.proofs.Placing.{Standing, none_stands, one_more, all_stand, none_placed, they_fit, none_fits}
-use Rattle.widths.proofs.Widening.{widened}
-use native.Mathlib.Omega.{arith}
+use lib.ListN.{length}
+use Rattle.exports_parts.proofs.Placing.{Standing}
 use Rattle.exports_parts.proofs.put_u8.Given as goal
 
 abbrev pub invariant-loop-k : goal.invariant-loop-k
