@@ -24,6 +24,7 @@ const MONITOR3: usize = 80;
 
 // Reads the reply to the Tongzhu function `asked`; its values go to the front of the row.
 #[unsafe(no_mangle)]
+#[tactic(auto, using(frames_tongzhu::proofs::Ladder::whole_parts, records_tongzhu::proofs::Answers::no_frame, records_tongzhu::proofs::Answers::whole_frame, exports_answers::proofs::Telling::told_refused), unfolding(records_tongzhu::specs::Replies::reply_of))]
 pub extern "C" fn tracksaffron_tz_read(asked: u8, s: &[u8], row: &mut [i32]) -> u64
     ensures answer { result ≡ code_of (told_of (reply_of asked s.now)) (length row.old) 0 }
     ensures filled { row.new ≡ row_after (told_of (reply_of asked s.now)) row.old }
@@ -40,6 +41,7 @@ pub extern "C" fn tracksaffron_tz_read(asked: u8, s: &[u8], row: &mut [i32]) -> 
 }
 
 // What a whole frame answers. A monitor 3, the longest reply, goes its own way: the answers to all functions would share its registers.
+#[tactic(auto, unfolding(records_tongzhu::specs::Replies::answer_to, functions_tongzhu::specs::Functions::kind_of, payloads_tongzhu::specs::Payloads::payload_of))]
 fn tell_payload(asked: u8, function: u8, p: &[u8], row: &mut [i32]) -> u64
     ensures answer { result ≡ code_of (told_in (answer_to asked function p.now) p.now) (length row.old) 0 }
     ensures filled { row.new ≡ row_after (told_in (answer_to asked function p.now) p.now) row.old }
