@@ -11,7 +11,7 @@ returns-then-opcode-eq14 c = c.parse_set.ensures ∙ parsed_set_lem _ _ (search 
 
 pub returns-then-not-listed : goal.returns-then-not-listed
 returns-then-not-listed c =
-    c.not_parsed.ensures ∙ parsed_unlisted _ _ (search rules) (sym c.is_asking-listed.before.before.ensures ∙ not-true _ c.if-not-listed.true)
+    c.not_parsed.ensures ∙ parsed_unlisted _ _ (search rules) (sym c.is_asking-listed.ensures ∙ c.if-not-listed.true)
 
 pub returns-then-not-empty : goal.returns-then-not-empty
 returns-then-not-empty c =

@@ -22,5 +22,5 @@ returns-in-Refused c = request_refused _ _ (sym c.in-Refused.is ∙ c.read_frame
 
 pub returns-in-Whole : goal.returns-in-Whole
 returns-in-Whole c =
-    let e : Whole ((c.f-in-Whole-1.given.0)).0 ((c.f-in-Whole-1.given.0)).1.0 ((c.f-in-Whole-1.given.0)).1.1.0 ≡ frame_of c.args.s.now = sym c.in-Whole.is ∙ c.read_frame-f.ensures in
-    c.parse.ensures ∙ ap (parsed_of ((c.f-in-Whole-1.given.0)).0) (part_payload _ _ _ _ e) ∙ request_whole _ _ _ _ e
+    let e : Whole c.in-Whole.opcode c.in-Whole.start c.in-Whole.len ≡ frame_of c.args.s.now = sym c.in-Whole.is ∙ c.read_frame-f.ensures in
+    c.parse.ensures ∙ ap (parsed_of c.in-Whole.opcode) (part_payload _ _ _ _ e) ∙ request_whole _ _ _ _ e
