@@ -10,13 +10,13 @@ use Rattle.restore_reply.proofs.reply.Goals as goal
 pub returns-in_default : goal.returns-in_default
 returns-in_default c =
     let a = c.args in
-    not_waiting a.job.present a.job.wanted a.job.phase a.s.now c.hear-answer.result c.in_default.is ((c.hear-answer.ensures ∙ ap (λ (b : Bool). answer_in b c.args.s.now) c.is_waiting-waiting.ensures))
+    not_waiting a.job.present a.job.wanted a.job.phase a.s.now c.hear-answer.result c.in_default.not-Waiting ((c.hear-answer.ensures ∙ ap (λ (b : Bool). answer_in b c.args.s.now) c.is_waiting-waiting.ensures))
 
 pub returns-in_default-answer : goal.returns-in_default-answer
 returns-in_default-answer c =
     let a = c.args in
     reply_refused a.job.present a.job.wanted a.job.phase c.in-Waiting.register c.in-Waiting.is a.s.now
-    c.hear-answer.result ((c.hear-answer.ensures ∙ ap (λ (b : Bool). answer_in b c.args.s.now) c.is_waiting-waiting.ensures)) c.enum_told-1.given.0.0 c.in_default-answer.is
+    c.hear-answer.result ((c.hear-answer.ensures ∙ ap (λ (b : Bool). answer_in b c.args.s.now) c.is_waiting-waiting.ensures)) c.in_default-answer.field-0 c.in_default-answer.is
 
 pub returns-in-Written : goal.returns-in-Written
 returns-in-Written c =
@@ -30,4 +30,4 @@ returns-in-Failure c =
     let a = c.args in
     rw (c.stopped.ensures, c.in-Failure.is)
     (device_failed a.job.present a.job.wanted a.job.phase c.in-Waiting.register c.in-Waiting.is a.s.now
-    c.hear-answer.result ((c.hear-answer.ensures ∙ ap (λ (b : Bool). answer_in b c.args.s.now) c.is_waiting-waiting.ensures)) c.in-Failure._ (c.in-Taken.is ∙ ap Taken c.in-Failure.is))
+    c.hear-answer.result ((c.hear-answer.ensures ∙ ap (λ (b : Bool). answer_in b c.args.s.now) c.is_waiting-waiting.ensures)) c.in-Failure.field-0 (c.in-Taken.is ∙ ap Taken c.in-Failure.is))

@@ -9,5 +9,5 @@ use Rattle.restore_reply.proofs.wanted_value.Goals as goal
 
 pub returns-else-n-lt50 : goal.returns-else-n-lt50
 returns-else-n-lt50 c =
-    let h : length c.args.t1 ≡ 50 = search rules in
-    sym (get_or-eq_default c.args.t1 (pos 0) (omega arith))
+    let h : length c.args.wanted ≡ 50 = search rules in
+    sym (get_or-eq_default c.args.wanted (pos 0) (omega arith))
