@@ -8,7 +8,7 @@ ghost use Rattle.parts_old58.specs.Parts.{byte_at, two_at, three_at, volts_at, d
 use numbers::{Order, number16, number24};
 
 // A current, or missing (sign X).
-#[derive(Drop)]
+#[derive(Clone, Copy)]
 pub enum Current {
     Milliamps(i32),
     Missing,
