@@ -37,6 +37,7 @@ pub enum Judged {
 }
 
 // The record in the bytes, or why there is none.
+#[tactic(auto, unfolding(crate::specs::Read::reading_of))]
 pub fn read_record(s: &[u8]) -> Reading
     ensures { result ≡ reading_of s.now }
 {
@@ -49,6 +50,7 @@ pub fn read_record(s: &[u8]) -> Reading
 
 // Whether the bytes are a record, or why they are none. Who wants its parts one by one reads them after it. All tests of 58 bytes are made
 // before the first of them refuses: their order is that of the refusals alone.
+#[tactic(auto, unfolding(crate::specs::Read::judged_of))]
 pub fn judge(s: &[u8]) -> Judged
     ensures { result ≡ judged_of s.now }
 {
@@ -82,6 +84,7 @@ fn front_sum(s: &[u8]) -> u8
 }
 
 // Whether the three signs and the time are among those that the document has.
+#[tactic(auto, unfolding(crate::specs::Read::ranged))]
 fn in_range(s: &[u8]) -> bool
     requires { 58 ≤ length s.now }
     ensures { result ≡ ranged s.now }
@@ -101,6 +104,7 @@ fn in_range(s: &[u8]) -> bool
     s[48] <= 59
 }
 
+#[tactic(auto, unfolding(crate::specs::Read::sign_known))]
 fn is_sign(b: u8) -> bool
     ensures { result ≡ sign_known b }
 {
@@ -110,6 +114,7 @@ fn is_sign(b: u8) -> bool
     }
 }
 
+#[tactic(auto, unfolding(crate::specs::Record::record_of))]
 fn record_of(s: &[u8]) -> Record
     ensures { result ≡ record_of s.now }
 {

@@ -8,7 +8,7 @@ ghost use Rattle.parts_old58.specs.Parts.{byte_at, two_at, three_at, volts_at, d
 use numbers::{Order, number16, number24};
 
 // A current, or missing (sign X).
-#[derive(Drop)]
+#[derive(Clone, Copy)]
 pub enum Current {
     Milliamps(i32),
     Missing,
@@ -69,6 +69,7 @@ pub struct Setup {
 }
 
 // The parts of a record, each from its own bytes; a byte past the end is 0.
+#[tactic(auto, unfolding(crate::specs::Parts::pack_of))]
 pub fn pack_of(s: &[u8]) -> Pack
     ensures { result ≡ pack_of s.now }
 {
@@ -80,6 +81,7 @@ pub fn pack_of(s: &[u8]) -> Pack
     }
 }
 
+#[tactic(auto, unfolding(crate::specs::Parts::extremes_of))]
 pub fn extremes_of(s: &[u8]) -> Extremes
     ensures { result ≡ extremes_of s.now }
 {
@@ -95,6 +97,7 @@ pub fn extremes_of(s: &[u8]) -> Extremes
     }
 }
 
+#[tactic(auto, unfolding(crate::specs::Parts::cell_of))]
 pub fn cell_of(s: &[u8]) -> Cell
     ensures { result ≡ cell_of s.now }
 {
@@ -107,6 +110,7 @@ pub fn cell_of(s: &[u8]) -> Cell
     }
 }
 
+#[tactic(auto, unfolding(crate::specs::Parts::energy_of))]
 pub fn energy_of(s: &[u8]) -> Energy
     ensures { result ≡ energy_of s.now }
 {
@@ -120,6 +124,7 @@ pub fn energy_of(s: &[u8]) -> Energy
     }
 }
 
+#[tactic(auto, unfolding(crate::specs::Parts::setup_of))]
 pub fn setup_of(s: &[u8]) -> Setup
     ensures { result ≡ setup_of s.now }
 {
@@ -144,6 +149,7 @@ fn byte_at(s: &[u8], byte: usize) -> u8
 }
 
 // The number of the two bytes from this one on.
+#[tactic(auto, unfolding(crate::specs::Parts::two_at))]
 fn two_at(s: &[u8], byte: usize) -> u16
     requires { (1 ≤ byte) × (byte ≤ 56) }
     ensures { result ≡ two_at s.now byte }
@@ -152,6 +158,7 @@ fn two_at(s: &[u8], byte: usize) -> u16
 }
 
 // The number of the three bytes from this one on.
+#[tactic(auto, unfolding(crate::specs::Parts::three_at))]
 fn three_at(s: &[u8], byte: usize) -> u32
     requires { (1 ≤ byte) × (byte ≤ 55) }
     ensures { (result ≡ three_at s.now byte) × (result < 16777216) }
@@ -165,6 +172,7 @@ fn three_at(s: &[u8], byte: usize) -> u32
 }
 
 // Two bytes of 5 mV a count.
+#[tactic(auto, unfolding(crate::specs::Parts::volts_at))]
 fn volts_at(s: &[u8], byte: usize) -> u32
     requires { (1 ≤ byte) × (byte ≤ 56) }
     ensures { result ≡ volts_at s.now byte }
@@ -173,6 +181,7 @@ fn volts_at(s: &[u8], byte: usize) -> u32
 }
 
 // Two bytes of degrees, 276 above Celsius.
+#[tactic(auto, unfolding(crate::specs::Parts::degrees_at))]
 fn degrees_at(s: &[u8], byte: usize) -> i32
     requires { (1 ≤ byte) × (byte ≤ 56) }
     ensures { result ≡ degrees_at s.now byte }
@@ -181,6 +190,7 @@ fn degrees_at(s: &[u8], byte: usize) -> i32
 }
 
 // A sign byte and the two bytes of 125 mA a count behind it.
+#[tactic(auto, unfolding(crate::specs::Parts::current_at))]
 fn current_at(s: &[u8], byte: usize) -> Current
     requires { (1 ≤ byte) × (byte ≤ 55) }
     ensures { result ≡ current_at s.now byte }
@@ -188,6 +198,7 @@ fn current_at(s: &[u8], byte: usize) -> Current
     current_of(byte_at(s, byte), two_at(s, byte + 1))
 }
 
+#[tactic(auto, unfolding(crate::specs::Parts::current_of))]
 fn current_of(sign: u8, count: u16) -> Current
     ensures { result ≡ current_of sign count }
 {
