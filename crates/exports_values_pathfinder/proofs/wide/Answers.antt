@@ -5,20 +5,16 @@ use mir.Val.{SFits}
 use mir.Facts.{sfits_widen}
 use Rattle.widths.proofs.Widening.{wide_fits, wide_held}
 use borrow.Author.Rules.{rules}
-use Rattle.exports_values_pathfinder.proofs.wide.Statement.{statement}
-use Rattle.exports_values_pathfinder.proofs.wide.Tie as tie
+use Rattle.exports_values_pathfinder.proofs.wide.Goals as goal
 
-cast-result : tie.Need-overflow-cast-result
-cast-result c =
-    let x = c.before.before.args.v.0 in
+pub overflow_cast-result : goal.overflow_cast-result
+overflow_cast-result c =
+    let x = c.args.v.0 in
     let f : SFits w16 x = search rules in
     wide_fits w16 w64 x f (sfits_widen {w = w16} tt f)
 
-returns : tie.Need-returns
+pub returns : goal.returns
 returns c =
-    let x = c.before.before.args.v.0 in
+    let x = c.args.v.0 in
     let f : SFits w16 x = search rules in
     wide_held w16 w64 x f (sfits_widen {w = w16} tt f)
-
-pub wide_spec : {M : Type 1} → statement M
-wide_spec = tie.close (tie.spec cast-result returns)
