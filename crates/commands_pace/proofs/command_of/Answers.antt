@@ -1,6 +1,7 @@
 -- `commands_pace::command_of` meets its contract: each code of its own computes; the rest is none of them, and goes by the settings.
 -- Assumes nothing.
 use mathlib.Core.Path.{◌∙◌}
+use native.Mathlib.Omega.{arith}
 use Rattle.commands_pace.specs.Commands.{command_of}
 use Rattle.commands_pace.proofs.Commands.{by_settings}
 use Rattle.commands_pace.proofs.command_of.Goals as goal
@@ -22,4 +23,4 @@ unfolding command_of
 returns-in-194 c = rw c.in-194.is
 
 pub returns-in_default : goal.returns-in_default
-returns-in_default c = let no = c.in_default.in_default-own.rest in c.by_setting.ensures ∙ by_settings _ no.0.0.0.1 no.0.0.1 no.0.1 no.1
+returns-in_default c = c.by_setting.ensures ∙ by_settings _ (λ h. omega arith) (λ h. omega arith) (λ h. omega arith) (λ h. omega arith)

