@@ -7,7 +7,12 @@ if [ "$(uname -m)" != x86_64 ]; then
     emulated="qemu-x86_64 /usr/x86_64-linux-gnu/lib/ld-linux-x86-64.so.2 --library-path /usr/x86_64-linux-gnu/lib"
 fi
 
-# What starts a program of target/bin: itself, or a script that hands it to the emulator.
+# Proves a program and builds it as crates/NAME/out/NAME, where it has changed since; it is run once on no input.
+built() { # NAME
+    (cd "crates/$1" && rt run </dev/null)
+}
+
+# What starts such a program: itself, or a script that hands it to the emulator.
 started() { # PROGRAM
     if [ -z "$emulated" ]; then
         echo "$1"

@@ -17,6 +17,11 @@ import tempfile
 HEAD = re.compile(r"^(?:(?:abbrev|unfoldable|pub) +)*([^\s(){}:]+) *(?:\(|\{|:)")
 
 
+def read(path):
+    with open(path, encoding="utf-8") as f:
+        return f.read()
+
+
 def plain(name):
     return re.sub(r"[-_ ]+", "-", name)
 
@@ -67,7 +72,7 @@ def tokens(text, names):
 def spelled_out(text):
     """A place on the way that has a name of its own is written out."""
     while True:
-        m = re.search(r"let (\w+) = (c(?:\.before)+) in\s*", text)
+        m = re.search(r"let (\w+) = (c(?:\.before)+|c(?:\.before)*\.[\w-]+\.given(?:\.\d)*) in\s*", text)
         if not m:
             return text
         text = text[: m.start()] + re.sub(rf"(?<![\w.]){m.group(1)}(?![\w'-])", m.group(2), text[m.end() :])
@@ -98,29 +103,50 @@ class Function:
         return None, None
 
 
-def turn_paths(text, chain, say):
+def binders(source, variant):
+    """The names that a pattern of the variant binds, in order."""
+    m = re.search(rf"\b{re.escape(variant)}\s*[({{]([^)}}]*)[)}}]\s*(?:=>|=)", source)
+    return [b.split(":")[-1].strip() for b in m.group(1).split(",") if b.strip()] if m else []
+
+
+def turn_paths(text, chain, say, source):
     """`c.before.before.STEP` as `c.STEP`, by today's name of the step."""
+
+    def known(place, given):
+        """What a match knows of its value had a step of its own: today the arm has it, as `.is` and by the pattern's names."""
+        above = chain[chain.index(place) :]
+        arms = [p[2][1] for p in above if re.match(r"in[-_]", p[2][1])]
+        if not arms:
+            return None
+        if given == ".given.1":
+            return f"c.{arms[0]}.is"
+        m = re.fullmatch(r"\.given\.0((?:\.1)*)\.0", given)
+        names = binders(source, re.sub(r"^in-(\w+?)(?:-.*)?$", r"\1", arms[0]))
+        if m and m.group(1).count(".1") < len(names):
+            return f"c.{arms[0]}.{names[m.group(1).count('.1')]}"
+        return None
 
     def one(m):
         depth = m.group(1).count(".before")
-        step = m.group(2)
+        step, given = m.group(2), m.group(3)
         if step in ("args", "requires", "ranges", "well_formed", "type_inv", "utf8"):
-            return "c." + step
-        at = [p for p in chain if plain(p[2][0]) == plain(step)]
+            return "c." + step + given
+        step = step.removesuffix("_lem")
+        at = [p for p in chain if plain(p[2][0]).lower() == plain(step).lower()]
         if len(at) > 1 and depth < len(chain) and plain(chain[depth][2][0]) == plain(step):
             at = [chain[depth]]
+        if given:
+            for p in at:
+                new = known(p, given)
+                if new:
+                    return new
         if at:
-            return "c." + at[0][2][1]
-        if re.fullmatch(r"in-.*", step):
-            return "c." + step
-        say(f"no step {step}")
-        return "c." + step
+            return "c." + at[0][2][1] + given
+        if not re.fullmatch(r"in-.*", step):
+            say(f"no step {step}")
+        return "c." + step + given
 
-    text = re.sub(r"(?<![\w.])c((?:\.before)*)\.([\w-]+)", one, text)
-    # What a match knows of its value was a fact of its own: today the arm has it.
-    arms = [p[2][1] for p in chain if re.match(r"in[-_]", p[2][1]) and not p[2][1].startswith("in_ok")]
-    if arms:
-        text = re.sub(r"c\.(?:enum_told|known|struct)[\w-]*\.given\.1", f"c.{arms[0]}.is", text)
+    text = re.sub(r"(?<![\w.])c((?:\.before)*)\.([\w-]+)((?:\.given(?:\.\d)*)?)", one, text)
     text = re.sub(r"\.keys\d+\b", ".is", text)
     return re.sub(r"(?<!own)\.rest\b", ".in_default-own.rest", text)
 
@@ -132,6 +158,10 @@ def convert(crate, name, folder, said):
     func = Function(said)
     notes = []
     say = notes.append
+    source = ""
+    for file in sorted(os.listdir(f"crates/{crate}/src")):
+        m = re.search(rf"\bfn {name.split('.')[-1]}\b.*?\n(?=\}}|    \}}\n\n    (?:pub )?fn)", read(f"crates/{crate}/src/{file}"), re.S)
+        source += m.group() if m else ""
     head, parts = blocks(text)
     comment = [h for h in head if h.startswith("--")]
     uses = [h for h in head if h.strip() and not h.startswith("--")]
@@ -224,7 +254,7 @@ def convert(crate, name, folder, said):
             rest, unfold = written_out(spelled_out(rest))
             if unfold:
                 rest = re.sub(r"^unfolding ", f"unfolding {unfold} ", rest) if rest.startswith("unfolding ") else f"unfolding {unfold}\n{rest}"
-            rest = turn_paths(rest, chain, say)
+            rest = turn_paths(rest, chain, say, source)
             rest = re.sub(rf"(?<![\w.-]){re.escape(own)}(?![\w-])", new, rest)
             rest = re.sub(rf"^({re.escape(new)}) c κs =", r"\1 c =", rest, flags=re.M)
             lead = "\n".join(x for x in part if x.startswith("--"))

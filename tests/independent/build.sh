@@ -15,9 +15,9 @@ CARGO_TARGET_DIR=$built cargo build --release --offline --quiet --manifest-path 
 programs=$built/release
 
 need_console() {
-    console=${CONSOLE:-$PWD/target/bin/console}
+    console=${CONSOLE:-$PWD/crates/console/out/console}
     if [ -z "${CONSOLE:-}" ] && [ ! -e "$console" ]; then
-        rt check console || exit 2
+        built console || exit 2
     fi
     [ -n "${CONSOLE:-}" ] || console=$(started "$console")
     if [ ! -x "$console" ]; then

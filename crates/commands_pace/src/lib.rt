@@ -11,7 +11,7 @@ use layouts_pace::{Setting, layout_of};
 const SETTINGS: [Setting; 2] = [Setting::Overvoltage, Setting::Discharge];
 
 // What a command is for.
-#[derive(Drop)]
+#[derive(Clone, Copy)]
 pub enum Command {
     Analog,
     Warnings,

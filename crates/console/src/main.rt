@@ -9,7 +9,8 @@ mod words;
 
 ghost use Rattle.std.specs.Prelude.{◌<◌};
 
-use libc::{STDIN_FILENO, STDOUT_FILENO};
+use std::io;
+use std::io::Read;
 use words::{Call, Fault};
 
 // The longest line that is taken, its end not counted.
@@ -32,7 +33,7 @@ struct Answered {
     at: usize,
 }
 
-fn main() {
+fn main(rt: HostRuntime) -> io::Result<()> {
     let mut input = [0u8; 81920];
     let mut bytes = [0u8; 8192];
     let mut string = [0u8; 8192];
@@ -40,35 +41,40 @@ fn main() {
     let mut job = [255u8; 402];
     let mut out = [0u8; 65536];
     talk(
+        &mut rt.stdin(),
+        &rt,
         &mut input,
         &mut bytes,
         &mut string,
         &mut row,
         &mut job,
         &mut out,
-    );
+    )
 }
 
 // Reads until the input ends, and answers the lines that ended in what came. Every loop must be shown to stop, so this one has a limit of reads,
-// far above what any input takes.
+// far above what any input takes. A read or a write that fails ends it.
 fn talk(
+    from: &mut impl Read,
+    to: &impl Print,
     input: &mut [u8],
     bytes: &mut [u8],
     string: &mut [u8],
     row: &mut [i32],
     job: &mut [u8],
     out: &mut [u8],
-) {
+) -> io::Result<()> {
     let mut had = 0;
     let mut turns = u64::MAX;
     while turns > 0 {
-        let come = read_on(input, had);
+        let come = read_on(from, input, had)?;
         let there = words::given(input, come.n as u64);
-        let done = answer_all(there, bytes, string, row, job, out);
-        flush(out, done.at);
+        let done = answer_all(to, there, bytes, string, row, job, out)?;
+        flush(to, out, done.at)?;
         had = to_front(input, done.from, come.n);
         turns = fewer(turns, come.ended);
     }
+    Ok(())
 }
 
 fn fewer(turns: u64, ended: bool) -> u64
@@ -79,25 +85,24 @@ fn fewer(turns: u64, ended: bool) -> u64
 }
 
 // Reads once, behind the bytes that are there. Where nothing came the input is at its end, and what is left is its last line.
-fn read_on(input: &mut [u8], had: usize) -> Come {
-    let n = read_behind(input, had);
+fn read_on(from: &mut impl Read, input: &mut [u8], had: usize) -> io::Result<Come> {
+    let n = read_behind(from, input, had)?;
     if had < n {
-        return Come { n, ended: false };
+        return Ok(Come { n, ended: false });
     }
-    Come {
+    Ok(Come {
         n: end_line(input, had),
         ended: true,
-    }
+    })
 }
 
 // How many bytes there are after a read.
-fn read_behind(input: &mut [u8], had: usize) -> usize {
+fn read_behind(from: &mut impl Read, input: &mut [u8], had: usize) -> io::Result<usize> {
     if input.len() < had {
-        return had;
+        return Ok(had);
     }
-    let rest = &mut input[had..];
-    let got = libc::read(STDIN_FILENO, rest);
-    had + io::count(got, rest)
+    let got = from.read(&mut input[had..])?;
+    Ok(had + got)
 }
 
 // The end that the last line lacks. A carriage return belongs to it, so that none of the line's own does.
@@ -108,24 +113,25 @@ fn end_line(input: &mut [u8], had: usize) -> usize {
 
 // Answers each line that ends in the input.
 fn answer_all(
+    to: &impl Print,
     input: &[u8],
     bytes: &mut [u8],
     string: &mut [u8],
     row: &mut [i32],
     job: &mut [u8],
     out: &mut [u8],
-) -> Answered {
+) -> io::Result<Answered> {
     let mut at = 0;
     let mut from = 0;
     let mut end = words::until(input, 0, b'\n');
     while end < input.len() {
         let line = without_return(&input[from..end]);
         let next = answer(line, bytes, string, row, job, out, at);
-        at = spare(out, next);
+        at = spare(to, out, next)?;
         from = end + 1;
         end = words::until(input, from, b'\n');
     }
-    Answered { from, at }
+    Ok(Answered { from, at })
 }
 
 // A line without a carriage return at its end.
@@ -213,16 +219,17 @@ fn to_front(input: &mut [u8], from: usize, n: usize) -> usize {
 }
 
 // The place of the next answer: those before it are written where half of the room is used.
-fn spare(out: &[u8], at: usize) -> usize {
+fn spare(to: &impl Print, out: &[u8], at: usize) -> io::Result<usize> {
     if at < 32768 {
-        return at;
+        return Ok(at);
     }
-    flush(out, at);
-    0
+    flush(to, out, at)?;
+    Ok(0)
 }
 
-fn flush(out: &[u8], at: usize) {
+fn flush(to: &impl Print, out: &[u8], at: usize) -> io::Result<()> {
     if at <= out.len() {
-        io::write_all(STDOUT_FILENO, &out[0..at]);
+        return to.write_all(&out[0..at]);
     }
+    Ok(())
 }

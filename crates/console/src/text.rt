@@ -19,7 +19,7 @@ use crate::words::Fault;
 
 // How far a form is written: the place of the next byte, the place of the row's next number, the last number written (first of all the
 // answer's own), and whether a place is being read.
-#[derive(Drop)]
+#[derive(Clone, Copy)]
 struct Spot {
     at: usize,
     place: usize,
@@ -216,9 +216,8 @@ fn put_bytes(out: &mut [u8], from: usize, s: &[u8]) -> usize {
 }
 
 fn put_number(out: &mut [u8], at: usize, n: u64) -> usize {
-    let mut digits = [0u8; 20];
-    let k = io::decimal(n, &mut digits);
-    put_all(out, at, &digits[..k])
+    let mut digits = itoa::Buffer::new();
+    put_all(out, at, digits.format(n).as_bytes())
 }
 
 // A byte as two hex digits.

@@ -62,7 +62,7 @@ pub fn call_in(
 
 fn parameters_of(kinds: &[u8], k: usize) -> &[u8] {
     let own = word(kinds, k);
-    if check::same(own, b"-") {
+    if is_dash(own) {
         return &own[0..0];
     }
     own
@@ -111,7 +111,7 @@ pub fn index(names: &[u8], w: &[u8]) -> usize
     }
     let mut i = 0;
     while i < NONE {
-        if check::same(word(names, i), w) {
+        if word(names, i) == w {
             return i;
         }
         i += 1;
@@ -232,11 +232,16 @@ pub fn until(s: &[u8], from: usize, b: u8) -> usize
     i
 }
 
+// Whether a word is `-`, which stands for nothing.
+fn is_dash(w: &[u8]) -> bool {
+    matches!(w, b"-")
+}
+
 // ---- byte strings and bytes
 
 // An even number of digits of either case, or `-` for no bytes.
 fn hex(w: &[u8], bytes: &mut [u8]) -> Parameter {
-    if check::same(w, b"-") {
+    if is_dash(w) {
         return Parameter::Is(0);
     }
     if w.len() % 2 == 0 {
@@ -383,7 +388,7 @@ fn shifted(n: u64, d: u8) -> u64 {
 
 // Numbers with single commas between them, or `-` for none, into the row from this place on. All must be numbers before any is too large.
 fn list(w: &[u8], row: &mut [i32], from: u64) -> Parameter {
-    if check::same(w, b"-") {
+    if is_dash(w) {
         return Parameter::Is(from);
     }
     if !all_numbers(w) {

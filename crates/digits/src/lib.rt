@@ -13,6 +13,7 @@ pub enum Hex {
 }
 
 // The number of one hex digit.
+#[tactic(auto, unfolding(crate::specs::Hexes::digit_of))]
 pub fn read_digit(c: u8) -> Hex
     ensures { result ≡ digit_of c }
 {
@@ -24,6 +25,7 @@ pub fn read_digit(c: u8) -> Hex
 }
 
 // The byte of two hex digits.
+#[tactic(auto, using(crate::proofs::Characters::digit_small))]
 pub fn read_byte(high: u8, low: u8) -> Hex
     ensures { result ≡ byte_of high low }
 {

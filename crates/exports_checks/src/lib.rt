@@ -1,4 +1,4 @@
-// Checksums for other languages (`rt staticlib exports_checks`): numbers and slices only, each call safe with any input.
+// Checksums for other languages (`tracksaffron` exports it): numbers and slices only, each call safe with any input.
 #![tactic(auto)]
 
 ghost use Rattle.std.specs.Prelude.{◌≡◌};

@@ -1,4 +1,4 @@
-// A restore's job for other languages (`rt staticlib exports_jobs`): it lives in bytes that the caller lends, 402 of them, and each call is one of
+// A restore's job for other languages (`tracksaffron` exports it): it lives in bytes that the caller lends, 402 of them, and each call is one of
 // `restore_jobs` on the job in them (`restore_bytes`, `restore_stored`): a restore opened, and what is left. `specs/Opened.antt` says what open answers.
 #![tactic(auto)]
 

@@ -1,4 +1,4 @@
-// The 58-byte monitor for other languages (`rt staticlib exports_old58`): numbers and slices only, safe with any input.
+// The 58-byte monitor for other languages (`tracksaffron` exports it): numbers and slices only, safe with any input.
 // `specs/Records.antt` says at which place of the row each value stands.
 #![tactic(auto)]
 

@@ -1,4 +1,4 @@
-// PACE's replies for other languages (`rt staticlib exports_pace`): numbers and slices only, each call safe with any input.
+// PACE's replies for other languages (`tracksaffron` exports it): numbers and slices only, each call safe with any input.
 // `specs/Replies.antt` says which number an answer goes out as, and at which place of the row each of its values stands.
 #![tactic(auto)]
 

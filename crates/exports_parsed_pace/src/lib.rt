@@ -1,4 +1,4 @@
-// PACE's requests, read, for other languages (`rt staticlib exports_parsed_pace`): numbers and slices only, the call safe with any input.
+// PACE's requests, read, for other languages (`tracksaffron` exports it): numbers and slices only, the call safe with any input.
 // `specs/Requests.antt` says which number a request goes out as, and at which place of the row each of its values stands.
 #![tactic(auto)]
 

@@ -1,4 +1,4 @@
-// Tongzhu's requests, read, for other languages (`rt staticlib exports_parsed_tongzhu`): numbers and slices only, the call safe with any input.
+// Tongzhu's requests, read, for other languages (`tracksaffron` exports it): numbers and slices only, the call safe with any input.
 // `specs/Requests.antt` says which number a request goes out as, and at which place of the row each of its values stands.
 #![tactic(auto)]
 

@@ -1,4 +1,4 @@
-// Pathfinder's replies for other languages, and the search for one (`rt staticlib exports_pathfinder`): numbers and slices only, each call
+// Pathfinder's replies for other languages, and the search for one (`tracksaffron` exports it): numbers and slices only, each call
 // safe with any input.
 // An answer that is an enum goes out as one number: `specs/Codes.antt` says which.
 #![tactic(auto)]

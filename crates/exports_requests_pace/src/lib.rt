@@ -1,4 +1,4 @@
-// PACE's requests, written, for other languages (`rt staticlib exports_requests_pace`): numbers and slices only, each call safe with any input.
+// PACE's requests, written, for other languages (`tracksaffron` exports it): numbers and slices only, each call safe with any input.
 // `specs/Requests.antt` says which request the numbers of a setting are.
 #![tactic(auto)]
 

@@ -1,4 +1,4 @@
-// Pathfinder's requests, written, for other languages (`rt staticlib exports_requests_pathfinder`): numbers and slices only, each call safe with any input.
+// Pathfinder's requests, written, for other languages (`tracksaffron` exports it): numbers and slices only, each call safe with any input.
 #![tactic(auto)]
 
 ghost use Rattle.std.specs.Prelude.{◌≡◌, length};

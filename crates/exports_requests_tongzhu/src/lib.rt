@@ -1,4 +1,4 @@
-// Tongzhu's requests, written, for other languages (`rt staticlib exports_requests_tongzhu`): numbers and slices only, each call safe with any input.
+// Tongzhu's requests, written, for other languages (`tracksaffron` exports it): numbers and slices only, each call safe with any input.
 // `specs/Requests.antt` says which time six numbers are.
 #![tactic(auto)]
 

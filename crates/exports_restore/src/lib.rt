@@ -1,4 +1,4 @@
-// The restore's calls that speak with the pack, for other languages (`rt staticlib exports_restore`): the job lives in bytes that the caller lends
+// The restore's calls that speak with the pack, for other languages (`tracksaffron` exports it): the job lives in bytes that the caller lends
 // (`restore_bytes`, `restore_stored`; opened by `exports_jobs`), and each call is `restore_next` or `restore_reply` on the job in them. `specs/Steps.antt` says what each answers.
 #![tactic(auto)]
 

@@ -1,4 +1,4 @@
-// What a word of a Pathfinder reply means, for other languages (`rt staticlib exports_values_pathfinder`): numbers and slices only, each call
+// What a word of a Pathfinder reply means, for other languages (`tracksaffron` exports it): numbers and slices only, each call
 // safe with any input.
 // An answer that is an enum goes out as one number: `specs/Values.antt` says which.
 #![tactic(auto)]

@@ -5,14 +5,14 @@ ghost use Rattle.std.specs.Prelude.{◌≡◌};
 ghost use Rattle.layouts_pace.specs.Settings.{layout_of, values_of};
 
 // What can be read and written.
-#[derive(Drop)]
+#[derive(Clone, Copy)]
 pub enum Setting {
     Overvoltage,
     Discharge,
 }
 
 // How a setting is read and written.
-#[derive(Drop)]
+#[derive(Clone, Copy)]
 pub struct Layout {
     // The commands that read and write it.
     pub reads: u8,
@@ -30,6 +30,7 @@ pub struct Layout {
     pub delay_step: u8,
 }
 
+#[tactic(auto, unfolding(crate::specs::Settings::layout_of))]
 pub fn layout_of(setting: Setting) -> Layout
     ensures { result ≡ layout_of setting }
 {
@@ -64,7 +65,7 @@ pub fn layout_of(setting: Setting) -> Layout
 }
 
 // The values of a setting, by name.
-#[derive(Drop)]
+#[derive(Clone, Copy)]
 pub enum Values {
     CellOvervoltage {
         alarm_mv: u16,

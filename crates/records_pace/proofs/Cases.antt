@@ -1,7 +1,7 @@
 -- The cases of the definitions of a reply, each from the facts that the reader has at that place.
 -- Assumes nothing.
-use mathlib.Core.Path.{◌≡◌, refl, sym, ap, ◌∙◌}
-use mathlib.Core.Bool.{Bool, true, false}
+use mathlib.Core.Path.{◌≡◌, sym, ap, ◌∙◌}
+use mathlib.Core.Bool.{Bool, true}
 use mathlib.Core.List.{List}
 use Prim.Native.Nat.{ℕ, ◌%◌}
 use native.Mathlib.Omega.{arith}
@@ -11,7 +11,7 @@ use lib.ListN.{length}
 use Rattle.laws.proofs.Ladders.{into}
 use Rattle.refusals.specs.declared.Refusal.{Refusal}
 use Rattle.refusals.specs.Refused.{address, request, shape}
-use Rattle.characters_pace.specs.Characters.{all_hex, bytes_in}
+use Rattle.characters_pace.specs.Characters.{all_hex}
 use Rattle.characters_pace.proofs.Checked.{fault_none, checked_bytes}
 use Rattle.frames_pace.specs.declared.Frame.TheVariants as frame
 use Rattle.frames_pace.specs.Frame.{info_of, frame_of}

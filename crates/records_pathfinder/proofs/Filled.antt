@@ -24,10 +24,6 @@ payload_length s op st len e =
     length-take-le (length s - 6) (drop 3 s) (rw (length-drop 3 s) (omega arith)) ∙ omega arith
 
 -- what the copy of the part leaves
-pub name_copied : (s out l : List ℕ) (op st len n : ℕ) → Whole op st len ≡ frame_of s → n ≡ len
-    → l ≡ take (length (take (st + len - st) (drop st s))) (take (st + len - st) (drop st s)) ++ drop (length (take (st + len - st) (drop st s))) out
-    → l ≡ payload_of s ++ drop n out
-name_copied s out l op st len n e q h =
-    let p = part_payload s op st len e in
-    let k : length (payload_of s) ≡ n = payload_length s op st len e ∙ sym q in
-    h ∙ rw (p, take-length, k)
+pub name_copied : (s out part : List ℕ) (op st len n : ℕ) → Whole op st len ≡ frame_of s → n ≡ len → part ≡ take (st + len - st) (drop st s)
+    → part ++ drop len out ≡ payload_of s ++ drop n out
+name_copied s out part op st len n e q h = rw (h, part_payload s op st len e, q)

@@ -43,7 +43,7 @@ pub fn read_reply(asked: u8, s: &[u8], row: &mut [i32], name: &mut [u8]) -> Repl
                     Reply::Words(n)
                 }
                 Reply::Name(n) => {
-                    bytes::copy(&s[start..start + len], name);
+                    name[..len].copy_from_slice(&s[start..start + len]);
                     Reply::Name(n)
                 }
                 Reply::Written => Reply::Written,

@@ -21,9 +21,9 @@ use Rattle.restore_jobs.specs.declared.Phase.TheVariants.{Ready, Waiting, Stoppe
 use Rattle.restore_jobs.specs.declared.Job.{Job}
 use Rattle.restore_bytes.specs.Jobs.{sized, phase_in, job_in, job_of, is_first, phase_stands, stands}
 
-calm_phase : (p : Phase) (ws : List ℕ) → OneOf (0 ∷ 2 ∷ []) (tag_of the_type p) → true ≡ phase_stands p ws
+calm_phase : (p : Phase) (ws : List ℕ) → ((r : ℕ) → p ≡ Waiting r → ⊥) → true ≡ phase_stands p ws
 calm_phase Ready ws h = refl
-calm_phase (Waiting r) ws h = absurd (⊎_elim (λ a. omega arith) (λ a. omega arith) h)
+calm_phase (Waiting r) ws h = absurd (h r refl)
 calm_phase Stopped ws h = refl
 
 none_first : (r : ℕ) (ws : List ℕ) → Nothing ≡ first_of ws → false ≡ is_first r ws
@@ -44,7 +44,7 @@ calm_bytes b long other = rw (long, ne_eqb (get_or b 400 0) 1 other) (go (eqb (g
     go false = refl
 
 module _ (j : Job) where
-  pub calm : OneOf (0 ∷ 2 ∷ []) (tag_of the_type j.phase) → true ≡ stands j
+  pub calm : ((r : ℕ) → j.phase ≡ Waiting r → ⊥) → true ≡ stands j
   unfolding stands
   calm h = calm_phase j.phase (writes slots j.present j.wanted) h
 

@@ -11,7 +11,7 @@ use restore_opening::{Verdict, judge};
 use restore_rules::count_left;
 
 // Between two frames, waiting for the reply to the write of one register, or stopped by a device failure.
-#[derive(Drop)]
+#[derive(Clone, Copy)]
 pub enum Phase {
     Ready,
     Waiting(u8),

@@ -39,12 +39,12 @@ failure_read (M.failure c) code e = let q : c ≡ code = cc in ap M.failure q
 failure_read (M.refused n) code e = let z : ◌≡◌ {A = ℕ} 0 1 = cc in absurd (omega arith)
 
 -- 14, before the reply is read
-pub not_waiting : (p w : List ℤ) (ph : Phase) (s : List ℕ) (answer : Answer) → OneOf (0 ∷ 2 ∷ []) (tag_of the_type ph)
+pub not_waiting : (p w : List ℤ) (ph : Phase) (s : List ℕ) (answer : Answer) → ((r : ℕ) → ph ≡ Waiting r → ⊥)
     → answer ≡ answer_in (is_waiting ph) s
     → ◌≡◌ {A = Heard} (record { answer = answer; job = record { present = p; wanted = w; phase = ph } })
     (heard_of (record { present = p; wanted = w; phase = ph }) s)
 not_waiting p w Ready s answer h e = rw e
-not_waiting p w (Waiting r) s answer h e = absurd (⊎_elim (λ e. omega arith) (λ e. omega arith) h)
+not_waiting p w (Waiting r) s answer h e = absurd (h r refl)
 not_waiting p w Stopped s answer h e = rw e
 
 module _ (p w : List ℤ) (ph : Phase) (r : ℕ) (waits : ph ≡ Waiting r) (s : List ℕ) (answer : Answer) (heard : answer ≡ answer_in (is_waiting ph) s) where

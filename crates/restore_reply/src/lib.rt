@@ -10,7 +10,7 @@ use records_pathfinder::{Reply, read_reply};
 use refusals::{Refusal, refuse};
 use restore_jobs::{Job, Phase};
 
-#[derive(Drop)]
+#[derive(Clone, Copy)]
 pub enum Outcome {
     // The register is written.
     Written,

@@ -1,12 +1,9 @@
 -- `checks::crc16` meets its contract. The loop's invariant: an even number of bytes is left, and the register, moved over them, gives the checksum.
 -- Assumes nothing.
-use Prim.Native.Nat.{ℕ, ◌+◌, ◌-◌, ◌%◌, ◌≤◌, ◌<◌}
-use mathlib.Core.Path.{◌≡◌, ap, sym, ◌∙◌}
-use native.Mathlib.Omega.{arith}
+use Prim.Native.Nat.{◌-◌, ◌%◌, ◌≤◌, ◌<◌}
+use mathlib.Core.Path.{◌≡◌}
 use lib.ListN.{length, drop}
-use Rattle.laws.proofs.Walk.{left_none}
 use Rattle.checks.specs.Crc.{crc_from, crc_of}
-use Rattle.checks.proofs.Pairs.{rest_after, two_next}
 use Rattle.checks.proofs.crc16.Given as goal
 
 abbrev pub invariant-loop-i : goal.invariant-loop-i

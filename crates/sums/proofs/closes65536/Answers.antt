@@ -1,6 +1,6 @@
 -- `sums::closes65536` meets its contract: what the low 16 bits of the sum leave modulo 65536 is what the sum leaves.
 -- Assumes nothing.
-use Rattle.std.proofs.Common.{◌≡◌, ℕ, ◌+◌, ◌%◌, eqb, ap, arith, rules}
+use Rattle.std.proofs.Common.{◌≡◌, ℕ, ◌+◌, ◌%◌, eqb, ap, arith}
 use Rattle.sums.specs.Sums.{total}
 use Rattle.sums.proofs.closes65536.Goals as goal
 

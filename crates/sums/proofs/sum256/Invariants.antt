@@ -1,8 +1,7 @@
 -- `sums::sum256` meets its contract. The loop's invariant: the sum so far with what is left is the whole sum, modulo 256.
 -- Assumes nothing.
-use Rattle.std.proofs.Common.{◌≡◌, ◌+◌, ◌-◌, ◌%◌, ◌<◌, ◌≤◌, length, drop, arith, rules}
+use Rattle.std.proofs.Common.{◌≡◌, ◌+◌, ◌-◌, ◌%◌, ◌<◌, ◌≤◌, length, drop}
 use Rattle.sums.specs.Sums.{total}
-use Rattle.sums.proofs.Adding.{total_next, total_none}
 use Rattle.sums.proofs.sum256.Given as goal
 
 abbrev pub invariant-loop-i : goal.invariant-loop-i

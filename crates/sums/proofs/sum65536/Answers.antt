@@ -1,8 +1,7 @@
 -- `sums::sum65536` meets its contract. The loop's invariant: the sum so far with what is left is the whole sum, modulo 65,536.
 -- Assumes nothing.
-use Rattle.std.proofs.Common.{◌≡◌, ◌+◌, ◌-◌, ◌%◌, ◌<◌, ◌≤◌, length, drop, arith, w8, rules}
+use Rattle.std.proofs.Common.{arith, w8}
 use mir.Facts.{Fits-widen}
-use Rattle.sums.specs.Sums.{total}
 use Rattle.sums.proofs.Adding.{total_next, total_none}
 use Rattle.sums.proofs.sum65536.Goals as goal
 

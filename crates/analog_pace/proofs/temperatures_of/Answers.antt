@@ -1,0 +1,33 @@
+-- `analog_pace::temperatures_of` meets its contract. The loop's invariant: the temperatures passed stand in front of zeros.
+-- Assumes nothing.
+use Prim.Native.Nat.{◌+◌, ◌*◌}
+use mathlib.Core.Path.{◌≡◌, refl, ap, ◌∙◌}
+use native.Mathlib.Omega.{arith}
+use lib.IntN.{pos}
+use lib.ListN.{replicate, length-set}
+use mir.Syntax.{w32}
+use mir.Val.{to_z, of_z}
+use borrow.Author.Rules.{rules}
+use Rattle.laws.specs.Firsts.{firsts}
+use Rattle.laws.proofs.Firsts.{firsts_more}
+use Rattle.characters_pace.specs.Characters.{bytes_in, word_at}
+use Rattle.analog_pace.specs.Analog.{tenths_of}
+use Rattle.analog_pace.proofs.temperatures_of.Goals as goal
+
+pub loop-i-init : goal.loop-i-init
+unfolding firsts
+loop-i-init c = (omega arith, (refl, refl))
+
+pub loop-i-preserved : goal.loop-i-preserved
+loop-i-preserved c =
+    let l = c.loop-i in
+    let a = c.args in
+    let held : to_z w32 (of_z w32 c.tenths_of.result) ≡ c.tenths_of.result = search rules in
+    (omega arith, (firsts_more (λ k. tenths_of (word_at (bytes_in a.info.now) (a.at + 2 * k))) (replicate 8 (pos 0)) l.row l.i _ l.invariant.1.0 (omega arith) (held ∙ c.tenths_of.ensures ∙ ap tenths_of c.word_of.ensures), simp length-set l.invariant.1.1))
+
+pub returns : goal.returns
+returns c =
+    let l = c.loop-i in
+    let a = c.args in
+    let e : l.i ≡ a.n = omega arith in
+    rw (← e) l.invariant.1.0
