@@ -21,6 +21,7 @@ const RECORD: usize = 32;
 
 // Reads a record; its values go to the front of the row.
 #[unsafe(no_mangle)]
+#[tactic(auto, unfolding(old58::specs::Read::reading_of))]
 pub extern "C" fn tracksaffron_old_read(s: &[u8], row: &mut [i32]) -> u64
     ensures answer { result ≡ code_of (told_of (reading_of s.now)) (length row.old) 0 }
     ensures filled { row.new ≡ row_after (told_of (reading_of s.now)) row.old }
@@ -33,6 +34,7 @@ pub extern "C" fn tracksaffron_old_read(s: &[u8], row: &mut [i32]) -> u64
 }
 
 // The record in the bytes, each part read and then written: a whole record would not stay in the registers.
+#[tactic(auto, using(crate::proofs::Small::pack_small, crate::proofs::Small::extremes_small, crate::proofs::Small::cell_small, crate::proofs::Small::energy_small))]
 fn put_record(s: &[u8], row: &mut [i32]) -> u64
     ensures answer { result ≡ room_code 1 (length (all_numbers (record_of s.now))) (length row.old) }
     ensures filled { row.new ≡ over (all_numbers (record_of s.now)) row.old }

@@ -1,11 +1,12 @@
 -- `exports_parts::put_i32` meets its contract. The loop's invariant: the first i values stand from the place `at` on, all else as it was.
 -- Assumes nothing.
-use mathlib.Core.Path.{refl}
+use mathlib.Core.Path.{◌≡◌, refl}
 use lib.IntN.{pos}
-use lib.ListN.{length}
+use lib.ListN.{length, get_or}
 use mir.Syntax.{w32}
-use mir.ValLaws.{to_z-of_z}
+use mir.Val.{to_z, of_z}
 use Rattle.exports_parts.proofs.Placing.{none_stands, one_more, all_stand, none_placed, they_fit, none_fits}
+use borrow.Author.Rules.{rules}
 use native.Mathlib.Omega.{arith}
 use Rattle.exports_parts.proofs.put_i32.Goals as goal
 
@@ -22,7 +23,9 @@ pub loop-i-preserved : goal.loop-i-preserved
 loop-i-preserved c =
     let l = c.loop-i in
     let a = c.args in
-    one_more _ a.at a.numbers.now a.row.now refl l.row l.i _ (pos 0) l.invariant (omega arith) (to_z-of_z w32 _ (record { sfits = c.v-1.given }))
+    let v = get_or a.numbers.now l.i (pos 0) in
+    let kept : to_z w32 (of_z w32 v) ≡ v = search rules in
+    one_more _ a.at a.numbers.now a.row.now refl l.row l.i _ (pos 0) l.invariant (omega arith) kept
 
 pub returns : goal.returns
 returns c =

@@ -19,13 +19,13 @@ pub loop-j-init : goal.loop-j-init
 loop-j-init c = let a = c.args in none_stands _ a.at (map pos a.numbers.now) a.row.now (length-map a.numbers.now pos) (omega arith)
 
 pub overflow_cast-half : goal.overflow_cast-half
-overflow_cast-half c = record { sfits = omega (arith, c.shared_slice_known-1.given c.loop-j.j) }
+overflow_cast-half c = record { sfits = omega (arith, c.type_inv.numbers c.loop-j.j) }
 
 pub loop-j-preserved : goal.loop-j-preserved
 loop-j-preserved c =
     let l = c.loop-j in
     let a = c.args in
-    one_more _ a.at (map pos a.numbers.now) a.row.now (length-map a.numbers.now pos) l.row l.j _ (pos 0) l.invariant (omega arith) (widened w32 a.numbers.now l.j (omega (arith, c.shared_slice_known-1.given l.j)))
+    one_more _ a.at (map pos a.numbers.now) a.row.now (length-map a.numbers.now pos) l.row l.j _ (pos 0) l.invariant (omega arith) (widened w32 a.numbers.now l.j (omega (arith, c.type_inv.numbers l.j)))
 
 pub returns : goal.returns
 returns c =

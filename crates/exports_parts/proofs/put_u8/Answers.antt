@@ -19,13 +19,13 @@ pub loop-k-init : goal.loop-k-init
 loop-k-init c = let a = c.args in none_stands _ a.at (map pos a.numbers.now) a.row.now (length-map a.numbers.now pos) (omega arith)
 
 pub overflow_cast-byte : goal.overflow_cast-byte
-overflow_cast-byte c = record { sfits = omega (arith, c.shared_slice_known-1.given c.loop-k.k) }
+overflow_cast-byte c = record { sfits = omega (arith, c.type_inv.numbers c.loop-k.k) }
 
 pub loop-k-preserved : goal.loop-k-preserved
 loop-k-preserved c =
     let l = c.loop-k in
     let a = c.args in
-    one_more _ a.at (map pos a.numbers.now) a.row.now (length-map a.numbers.now pos) l.row l.k _ (pos 0) l.invariant (omega arith) (widened w32 a.numbers.now l.k (omega (arith, c.shared_slice_known-1.given l.k)))
+    one_more _ a.at (map pos a.numbers.now) a.row.now (length-map a.numbers.now pos) l.row l.k _ (pos 0) l.invariant (omega arith) (widened w32 a.numbers.now l.k (omega (arith, c.type_inv.numbers l.k)))
 
 pub returns : goal.returns
 returns c =
