@@ -8,4 +8,4 @@ pub returns-in-Accepted : goal.returns-in-Accepted
 returns-in-Accepted c =
     let a = c.args in
     let e = sym c.in-Accepted.is in
-    record { answer = c.coded.ensures ∙ ap opening_code e; kept = c.put_job.ensures.held ∙ ap (λ x. opening_job x a.o.job a.job.now) e; }
+    record { answer = c.coded.ensures ∙ ap opening_code e; kept = c.put_job.ensures.held ∙ ap (λ x. opening_job x a.o.job a.job.now) e }

@@ -11,4 +11,4 @@ returns-in-Is c =
     let a = c.args in
     let told = c.tell_fields.ensures in
     let e = sym c.in-Is.is in
-    record { answer = told.answer ∙ ap (λ p. code_of (told_request p) (length a.row.now) 0) e; filled = told.filled ∙ ap (λ p. row_after (told_request p) a.row.now) e; }
+    record { answer = told.answer ∙ ap (λ p. code_of (told_request p) (length a.row.now) 0) e; filled = told.filled ∙ ap (λ p. row_after (told_request p) a.row.now) e }

@@ -11,4 +11,4 @@ returns c =
     let a = c.args in
     let told = c.tell_request.ensures in
     let e = c.read_request.ensures in
-    record { answer = told.answer ∙ ap (λ p. code_of (told_request p) (length a.row.now) 0) e; filled = told.filled ∙ ap (λ p. row_after (told_request p) a.row.now) e; }
+    record { answer = told.answer ∙ ap (λ p. code_of (told_request p) (length a.row.now) 0) e; filled = told.filled ∙ ap (λ p. row_after (told_request p) a.row.now) e }

@@ -15,6 +15,9 @@ returns-then-found-lt2 c = let a = c.args in no_room 1 (a.place ∷ a.len ∷ []
 pub returns : goal.returns
 returns c =
     let a = c.args in
-    let fits : 2 ≤ length a.found.now = search rules in record { answer = c.coded.ensures ∙ kind_told 1 (a.place ∷ a.len ∷ []) a.found.now fits; filled = ap (λ l. set l 1 a.len) (one_more [] a.found.now 0 a.place 0 refl (search rules))
+    let fits : 2 ≤ length a.found.now = search rules in record {
+      answer = c.coded.ensures ∙ kind_told 1 (a.place ∷ a.len ∷ []) a.found.now fits;
+      filled = ap (λ l. set l 1 a.len) (one_more [] a.found.now 0 a.place 0 refl (search rules))
           ∙ one_more (a.place ∷ []) a.found.now 1 a.len 0 refl fits
-          ∙ values_over 1 (a.place ∷ a.len ∷ []) a.found.now fits; }
+          ∙ values_over 1 (a.place ∷ a.len ∷ []) a.found.now fits;
+    }

@@ -10,4 +10,4 @@ returns c =
     let a = c.args in
     let told = c.tell_found.ensures in
     let e = c.find.ensures in
-    record { answer = told.answer ∙ ap (λ f. found_code f (length a.found.now)) e; filled = told.filled ∙ ap (λ f. found_after f a.found.now) e; }
+    record { answer = told.answer ∙ ap (λ f. found_code f (length a.found.now)) e; filled = told.filled ∙ ap (λ f. found_after f a.found.now) e }

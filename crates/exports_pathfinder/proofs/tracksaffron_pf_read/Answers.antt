@@ -9,4 +9,4 @@ use Rattle.exports_pathfinder.proofs.tracksaffron_pf_read.Goals as goal
 pub returns : goal.returns
 returns c =
     let a = c.args in
-    let e = c.read_reply.ensures in record { answer = c.reply_number.ensures ∙ ap reply_code e.answer; filled = e.filled ∙ ap (λ (r : Reply). row_after r a.s.now a.row.now) e.answer; copied = e.copied ∙ ap (λ (r : Reply). name_after r a.s.now a.name.now) e.answer; }
+    let e = c.read_reply.ensures in record { answer = c.reply_number.ensures ∙ ap reply_code e.answer; filled = e.filled ∙ ap (λ (r : Reply). row_after r a.s.now a.row.now) e.answer; copied = e.copied ∙ ap (λ (r : Reply). name_after r a.s.now a.name.now) e.answer }

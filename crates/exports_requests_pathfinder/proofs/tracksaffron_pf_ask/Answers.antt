@@ -11,4 +11,4 @@ pub returns : goal.returns
 returns c =
     let a = c.args in
     let e = c.write_ask.ensures in
-    record { answer = c.written_number.ensures ∙ ap written_code e.answer; room = e.room ∙ ap (λ w. room_after w (frame_for (Ask a.opcode)) a.out.now) e.answer; }
+    record { answer = c.written_number.ensures ∙ ap written_code e.answer; room = e.room ∙ ap (λ w. room_after w (frame_for (Ask a.opcode)) a.out.now) e.answer }

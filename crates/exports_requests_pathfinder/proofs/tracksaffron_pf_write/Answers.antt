@@ -17,5 +17,8 @@ returns c =
     let a = c.args in
     let q = ap (Write a.register) (to_z-of_z w32 a.value c.ranges.value) in
     let e = c.write_set.ensures in
-    let s = e.answer ∙ ap (λ (x : Request). sent_as x (length a.out.now)) q in record { answer = c.written_number.ensures ∙ ap written_code s; room = e.room ∙ ap (λ (x : Request). room_after c.write_set.result (frame_for x) a.out.now) q
-          ∙ ap (λ (r : Written). room_after r (frame_for (Write a.register a.value)) a.out.now) s; }
+    let s = e.answer ∙ ap (λ (x : Request). sent_as x (length a.out.now)) q in record {
+      answer = c.written_number.ensures ∙ ap written_code s;
+      room = e.room ∙ ap (λ (x : Request). room_after c.write_set.result (frame_for x) a.out.now) q
+          ∙ ap (λ (r : Written). room_after r (frame_for (Write a.register a.value)) a.out.now) s;
+    }

@@ -8,4 +8,4 @@ pub returns-in-Frame : goal.returns-in-Frame
 returns-in-Frame c =
     let a = c.args in
     let e = sym c.in-Frame.is in
-    record { answer = c.coded.ensures ∙ ap step_code e; kept = c.put_job.ensures.held ∙ ap (λ x. step_job x a.n.job a.job.now) e; }
+    record { answer = c.coded.ensures ∙ ap step_code e; kept = c.put_job.ensures.held ∙ ap (λ x. step_job x a.n.job a.job.now) e }

@@ -15,7 +15,7 @@ returns-then-is_job c =
     let j = c.job_of.ensures in
     let n = c.next.ensures.answer ∙ ap (λ x. next_of x (length a.out.now)) j in
     let told = c.stepped.ensures in
-    rw e record { answer = told.answer ∙ ap stepped_code n; kept = told.kept ∙ ap (λ x. stepped_job x a.job.now) n; room = c.next.ensures.room ∙ ap (λ x. room_of x a.out.now) j; }
+    rw e record { answer = told.answer ∙ ap stepped_code n; kept = told.kept ∙ ap (λ x. stepped_job x a.job.now) n; room = c.next.ensures.room ∙ ap (λ x. room_of x a.out.now) j }
 
 pub returns-else-is_job : goal.returns-else-is_job
-returns-else-is_job c = let e : is_job c.args.job.now ≡ false = sym c.is_job.ensures ∙ c.if-is_job.false in rw e record { answer = refl; kept = refl; room = refl; }
+returns-else-is_job c = let e : is_job c.args.job.now ≡ false = sym c.is_job.ensures ∙ c.if-is_job.false in rw e record { answer = refl; kept = refl; room = refl }

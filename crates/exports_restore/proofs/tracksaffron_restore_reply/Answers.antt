@@ -13,7 +13,7 @@ returns-then-is_job c =
     let e : is_job a.job.now ≡ true = sym c.is_job.ensures ∙ c.if-is_job.true in
     let n = c.reply.ensures ∙ ap (λ x. heard_of x a.s.now) c.job_of.ensures in
     let told = c.heard.ensures in
-    rw e record { answer = told.answer ∙ ap heard_code n; kept = told.kept ∙ ap (λ x. heard_job x a.job.now) n; }
+    rw e record { answer = told.answer ∙ ap heard_code n; kept = told.kept ∙ ap (λ x. heard_job x a.job.now) n }
 
 pub returns-else-is_job : goal.returns-else-is_job
-returns-else-is_job c = let e : is_job c.args.job.now ≡ false = sym c.is_job.ensures ∙ c.if-is_job.false in rw e record { answer = refl; kept = refl; }
+returns-else-is_job c = let e : is_job c.args.job.now ≡ false = sym c.is_job.ensures ∙ c.if-is_job.false in rw e record { answer = refl; kept = refl }

@@ -18,6 +18,9 @@ returns-then-value-lt1 c = let a = c.args in no_room a.kind (a.v ∷ []) a.value
 pub returns : goal.returns
 returns c =
     let a = c.args in
-    let fits : 1 ≤ length a.value.now = search rules in record { answer = c.coded.ensures ∙ kind_told a.kind (a.v ∷ []) a.value.now fits; filled = ap (set a.value.now 0) (to_z-of_z w64 a.v c.ranges.v)
+    let fits : 1 ≤ length a.value.now = search rules in record {
+      answer = c.coded.ensures ∙ kind_told a.kind (a.v ∷ []) a.value.now fits;
+      filled = ap (set a.value.now 0) (to_z-of_z w64 a.v c.ranges.v)
           ∙ one_more [] a.value.now 0 a.v (pos 0) refl fits
-          ∙ values_over a.kind (a.v ∷ []) a.value.now fits; }
+          ∙ values_over a.kind (a.v ∷ []) a.value.now fits;
+    }

@@ -13,4 +13,4 @@ pub returns : goal.returns
 returns c =
     let a = c.args in
     let e = c.narrow.ensures ∙ ap (row_of a.reply a.row) (to_z-of_z w32 a.word c.ranges.word) in
-    let told = c.tell_row.ensures in record { answer = told.answer ∙ ap (λ r. code_of (told_row r) (length a.value.now) 0) e; filled = told.filled ∙ ap (λ r. row_after (told_row r) a.value.now) e; }
+    let told = c.tell_row.ensures in record { answer = told.answer ∙ ap (λ r. code_of (told_row r) (length a.value.now) 0) e; filled = told.filled ∙ ap (λ r. row_after (told_row r) a.value.now) e }

@@ -23,4 +23,4 @@ bounds-out-2 c = let f : Fits c.args.len (length c.args.out.now) = half_says _ _
 pub returns : goal.returns
 returns c =
     let a = c.args in
-    record { answer = c.half-head.ensures; room = rw c.in-Frame.is (begun_is a.len a.out.now ((half_says _ _ _ _ c.half-head.ensures c.in-Frame.is)).room a.opcode); }
+    record { answer = c.half-head.ensures; room = rw c.in-Frame.is (begun_is a.len a.out.now ((half_says _ _ _ _ c.half-head.ensures c.in-Frame.is)).room a.opcode) }

@@ -23,5 +23,8 @@ slice_bounds-put_end-end c = let f : Fits c.args.len (length c.args.out.now) = h
 
 pub returns : goal.returns
 returns c =
-    let a = c.args in record { answer = c.half-end.ensures; room = rw c.in-Frame.is
-          (sealed_is a.len a.out.now ((half_says _ _ _ _ c.half-end.ensures c.in-Frame.is)).room c.crc16-sum.result _ c.crc16-sum.ensures c.put_end.ensures); }
+    let a = c.args in record {
+      answer = c.half-end.ensures;
+      room = rw c.in-Frame.is
+          (sealed_is a.len a.out.now ((half_says _ _ _ _ c.half-end.ensures c.in-Frame.is)).room c.crc16-sum.result _ c.crc16-sum.ensures c.put_end.ensures);
+    }

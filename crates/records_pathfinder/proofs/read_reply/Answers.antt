@@ -27,25 +27,25 @@ fill-requires c =
     omega arith
 
 pub returns-in-Refused : goal.returns-in-Refused
-returns-in-Refused c = record { answer = reply_refused _ _ _ _ _ (sym c.in-Refused.is ∙ c.read_frame-f.ensures); filled = refl; copied = refl; }
+returns-in-Refused c = record { answer = reply_refused _ _ _ _ _ (sym c.in-Refused.is ∙ c.read_frame-f.ensures); filled = refl; copied = refl }
 
 pub returns-in-Words : goal.returns-in-Words
 returns-in-Words c =
-    let e : Whole c.in-Whole.opcode c.in-Whole.start c.in-Whole.len ≡ frame_of c.args.s.now = sym c.in-Whole.is ∙ c.read_frame-f.ensures in record { answer = sym c.in-Words.is ∙ c.judge-v.ensures ∙ reply_whole _ _ _ _ _ _ _ e; filled = c.fill.ensures ∙ ap (λ (l : List ℕ). words c.in-Words.n l ++ drop c.in-Words.n c.args.row.now) (part_payload _ _ _ _ e); copied = refl; }
+    let e : Whole c.in-Whole.opcode c.in-Whole.start c.in-Whole.len ≡ frame_of c.args.s.now = sym c.in-Whole.is ∙ c.read_frame-f.ensures in record { answer = sym c.in-Words.is ∙ c.judge-v.ensures ∙ reply_whole _ _ _ _ _ _ _ e; filled = c.fill.ensures ∙ ap (λ (l : List ℕ). words c.in-Words.n l ++ drop c.in-Words.n c.args.row.now) (part_payload _ _ _ _ e); copied = refl }
 
 pub returns-in-Name : goal.returns-in-Name
 returns-in-Name c =
     let e : Whole c.in-Whole.opcode c.in-Whole.start c.in-Whole.len ≡ frame_of c.args.s.now = sym c.in-Whole.is ∙ c.read_frame-f.ensures in
-    let said = sym c.in-Name.is ∙ c.judge-v.ensures in record { answer = said ∙ reply_whole _ _ _ _ _ _ _ e; filled = refl; copied = name_copied _ _ _ _ _ _ _ e (name_fit _ _ _ _ _ _ said).0 c.copy_from_slice.ensures.after; }
+    let said = sym c.in-Name.is ∙ c.judge-v.ensures in record { answer = said ∙ reply_whole _ _ _ _ _ _ _ e; filled = refl; copied = name_copied _ _ _ _ _ _ _ e (name_fit _ _ _ _ _ _ said).0 c.copy_from_slice.ensures.after }
 
 pub returns-in-Written : goal.returns-in-Written
-returns-in-Written c = record { answer = sym c.in-Written.is ∙ c.judge-v.ensures ∙ reply_whole _ _ _ _ _ _ _ ((sym c.in-Whole.is ∙ c.read_frame-f.ensures)); filled = refl; copied = refl; }
+returns-in-Written c = record { answer = sym c.in-Written.is ∙ c.judge-v.ensures ∙ reply_whole _ _ _ _ _ _ _ ((sym c.in-Whole.is ∙ c.read_frame-f.ensures)); filled = refl; copied = refl }
 
 pub returns-in-Failure : goal.returns-in-Failure
-returns-in-Failure c = record { answer = sym c.in-Failure.is ∙ c.judge-v.ensures ∙ reply_whole _ _ _ _ _ _ _ ((sym c.in-Whole.is ∙ c.read_frame-f.ensures)); filled = refl; copied = refl; }
+returns-in-Failure c = record { answer = sym c.in-Failure.is ∙ c.judge-v.ensures ∙ reply_whole _ _ _ _ _ _ _ ((sym c.in-Whole.is ∙ c.read_frame-f.ensures)); filled = refl; copied = refl }
 
 pub returns-in-Refused-v : goal.returns-in-Refused-v
-returns-in-Refused-v c = record { answer = sym c.in-Refused-v.is ∙ c.judge-v.ensures ∙ reply_whole _ _ _ _ _ _ _ ((sym c.in-Whole.is ∙ c.read_frame-f.ensures)); filled = refl; copied = refl; }
+returns-in-Refused-v c = record { answer = sym c.in-Refused-v.is ∙ c.judge-v.ensures ∙ reply_whole _ _ _ _ _ _ _ ((sym c.in-Whole.is ∙ c.read_frame-f.ensures)); filled = refl; copied = refl }
 
 pub slice_bounds-copy_from_slice-end : goal.slice_bounds-copy_from_slice-end
 slice_bounds-copy_from_slice-end c = let f = name_fit _ _ _ _ _ _ (sym c.in-Name.is ∙ c.judge-v.ensures) in omega arith

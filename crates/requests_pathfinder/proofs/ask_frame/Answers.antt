@@ -16,4 +16,4 @@ returns c =
     let r =
     both_halves 0 6 _ (frame_for (Ask a.opcode)) a.out.now (begun a.opcode 0 a.out.now) _ _ (λ l. l) (sealed 0) _ _
     head.ensures.answer c.in-Frame.is head.ensures.room (search rules) end.ensures.answer end.ensures.room (ask_made a.opcode a.out.now) in
-    record { answer = r.0; room = r.1; }
+    record { answer = r.0; room = r.1 }

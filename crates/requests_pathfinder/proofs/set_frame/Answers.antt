@@ -31,4 +31,4 @@ returns c =
     both_halves 0 11 _ (frame_for (Write a.register a.value)) a.out.now (begun 14 5 a.out.now) _ _ (λ l. put_mid 3 5 l load.new.out) (sealed 5) _ _
     head.ensures.answer c.in-Frame.is head.ensures.room (search rules) end.ensures.answer end.ensures.room
     (set_made a.register a.value a.out.now _ (load.ensures ∙ ap (set_load a.register) held)) in
-    record { answer = r.0; room = r.1; }
+    record { answer = r.0; room = r.1 }

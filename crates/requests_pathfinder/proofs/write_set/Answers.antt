@@ -17,9 +17,9 @@ use Rattle.requests_pathfinder.proofs.write_set.Goals as goal
 pub returns-then-refused-ne0 : goal.returns-then-refused-ne0
 returns-then-refused-ne0 c =
     let a = c.args in
-    rw c.not_written.ensures record { answer = refused (Write a.register a.value) _ _ _ ((c.fault_of_write-fault.ensures ∙ ap fault_of ((ap (Write c.args.register) (to_z-of_z w32 c.args.value c.ranges.value))))) c.writing-refused.ensures c.if-refused-ne0.true; room = refl; }
+    rw c.not_written.ensures record { answer = refused (Write a.register a.value) _ _ _ ((c.fault_of_write-fault.ensures ∙ ap fault_of ((ap (Write c.args.register) (to_z-of_z w32 c.args.value c.ranges.value))))) c.writing-refused.ensures c.if-refused-ne0.true; room = refl }
 
 pub returns : goal.returns
 returns c =
     let a = c.args in
-    let f = c.set_frame in record { answer = f.ensures.answer ∙ sent (Write a.register a.value) _ _ ((c.fault_of_write-fault.ensures ∙ ap fault_of ((ap (Write c.args.register) (to_z-of_z w32 c.args.value c.ranges.value))))) (faultless _ _ (leb 11 (length a.out.now)) c.writing-refused.ensures c.if-refused-ne0.false); room = f.ensures.room ∙ ap (λ (x : Request). room_after f.result (frame_for x) a.out.now) ((ap (Write c.args.register) (to_z-of_z w32 c.args.value c.ranges.value))); }
+    let f = c.set_frame in record { answer = f.ensures.answer ∙ sent (Write a.register a.value) _ _ ((c.fault_of_write-fault.ensures ∙ ap fault_of ((ap (Write c.args.register) (to_z-of_z w32 c.args.value c.ranges.value))))) (faultless _ _ (leb 11 (length a.out.now)) c.writing-refused.ensures c.if-refused-ne0.false); room = f.ensures.room ∙ ap (λ (x : Request). room_after f.result (frame_for x) a.out.now) ((ap (Write c.args.register) (to_z-of_z w32 c.args.value c.ranges.value))) }

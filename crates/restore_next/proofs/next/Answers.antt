@@ -21,20 +21,20 @@ pub returns-then-not-ready : goal.returns-then-not-ready
 returns-then-not-ready c =
     let a = c.args in
     let r = out_of_turn a.job a.out.now (sym c.is_ready-ready.ensures ∙ c.if-not-ready.true) in
-    record { answer = c.declined.ensures ∙ r.0; room = r.1; }
+    record { answer = c.declined.ensures ∙ r.0; room = r.1 }
 
 pub returns-in_default : goal.returns-in_default
 returns-in_default c =
     let a = c.args in
     let r = nothing_to_write a.job a.out.now (sym c.is_ready-ready.ensures ∙ c.if-not-ready.false) (sym c.first_write.ensures ∙ c.in_default.is) in
-    record { answer = r.0; room = r.1; }
+    record { answer = r.0; room = r.1 }
 
 pub returns-then-not-roomy : goal.returns-then-not-roomy
 returns-then-not-roomy c =
     let a = c.args in
     let r =
     no_room a.job a.out.now (sym c.is_ready-ready.ensures ∙ c.if-not-ready.false) c.in-At.register (sym c.first_write.ensures ∙ c.in-At.is) c.if-not-roomy.true in
-    record { answer = c.declined-then-not-roomy.ensures ∙ r.0; room = r.1; }
+    record { answer = c.declined-then-not-roomy.ensures ∙ r.0; room = r.1 }
 
 pub bounds-wanted-register : goal.bounds-wanted-register
 bounds-wanted-register c =
@@ -52,4 +52,4 @@ returns c =
     let all =
     one_write a.job a.out.now ((sym c.is_ready-ready.ensures ∙ c.if-not-ready.false)) c.in-At.register (sym c.first_write.ensures ∙ c.in-At.is) c.if-not-roomy.false
     c.write_set-written.result answer in
-    record { answer = c.sent.ensures ∙ all.0; room = room ∙ all.1; }
+    record { answer = c.sent.ensures ∙ all.0; room = room ∙ all.1 }

@@ -21,7 +21,7 @@ pub loop-n-preserved : goal.loop-n-preserved
 loop-n-preserved c =
     let f = differs c.args.present.now c.args.wanted.now in
     elim c.if-changed.branch [
-      then-changed w ↦ (omega arith, omega (arith, one_more f c.loop-n.n true (sym c.changed.ensures ∙ w.if-changed.true), w.count-is))
+      | then-changed w ↦ (omega arith, omega (arith, one_more f c.loop-n.n true (sym c.changed.ensures ∙ w.if-changed.true), w.count-is))
       | else-changed w ↦ (omega arith, omega (arith, one_more f c.loop-n.n false (sym c.changed.ensures ∙ w.if-changed.false), w.count-is))
     ]
 

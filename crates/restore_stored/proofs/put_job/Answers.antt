@@ -10,7 +10,7 @@ use Rattle.restore_stored.proofs.put_job.Goals as goal
 
 pub returns-then-b-ne-JOB : goal.returns-then-b-ne-JOB
 unfolding job_after
-returns-then-b-ne-JOB c = record { answer = rw (ne_eqb _ _ c.if-b-ne-JOB.true); held = rw (ne_eqb _ _ c.if-b-ne-JOB.true); }
+returns-then-b-ne-JOB c = record { answer = rw (ne_eqb _ _ c.if-b-ne-JOB.true); held = rw (ne_eqb _ _ c.if-b-ne-JOB.true) }
 
 pub returns : goal.returns
 unfolding job_after
@@ -21,4 +21,4 @@ returns c =
     let w : length a.j.wanted ≡ 50 = search rules in
     let one = one_there a.j a.b.now p w long _ c.put_words.ensures.filled in
     let two = two_there a.j a.b.now p w long _ _ one c.put_words-2.ensures.filled in
-    record { answer = rw (eq-eqb _ _ long); held = rw (eq-eqb _ _ long) (job_put a.j a.b.now p w long _ _ two c.put_phase.ensures); }
+    record { answer = rw (eq-eqb _ _ long); held = rw (eq-eqb _ _ long) (job_put a.j a.b.now p w long _ _ two c.put_phase.ensures) }
