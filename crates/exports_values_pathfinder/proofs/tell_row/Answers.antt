@@ -14,7 +14,8 @@ returns-in-Number c =
     let a = c.args in
     let e = c.put_value.ensures in
     let held : to_z w64 (of_z w64 c.in-Number.v) ≡ c.in-Number.v = search rules in
-    told_numbers (told_row a.r) a.value.now 0 (ap told_row (sym c.in-Number.is)) (then held refl) e.answer e.filled
+    let told = told_numbers (told_row a.r) a.value.now 0 (ap told_row (sym c.in-Number.is)) (then held refl) e.answer e.filled in
+    record { answer = told.0; filled = told.1; }
 
 pub returns-in-TenMillivolts : goal.returns-in-TenMillivolts
 returns-in-TenMillivolts c =
@@ -22,7 +23,8 @@ returns-in-TenMillivolts c =
     let e = c.put_value-in-TenMillivolts.ensures in
     let v = c.wide.result in
     let held : to_z w64 (of_z w64 v) ≡ v = search rules in
-    told_numbers (told_row a.r) a.value.now 0 (ap told_row (sym c.in-TenMillivolts.is)) (then (held ∙ c.wide.ensures) refl) e.answer e.filled
+    let told = told_numbers (told_row a.r) a.value.now 0 (ap told_row (sym c.in-TenMillivolts.is)) (then (held ∙ c.wide.ensures) refl) e.answer e.filled in
+    record { answer = told.0; filled = told.1; }
 
 pub returns-in-Truth : goal.returns-in-Truth
 returns-in-Truth c =
@@ -30,4 +32,5 @@ returns-in-Truth c =
     let e = c.put_value-in-Truth.ensures in
     let v = c.bit.result in
     let held : to_z w64 (of_z w64 v) ≡ v = search rules in
-    told_numbers (told_row a.r) a.value.now 0 (ap told_row (sym c.in-Truth.is)) (then (held ∙ c.bit.ensures) refl) e.answer e.filled
+    let told = told_numbers (told_row a.r) a.value.now 0 (ap told_row (sym c.in-Truth.is)) (then (held ∙ c.bit.ensures) refl) e.answer e.filled in
+    record { answer = told.0; filled = told.1; }
