@@ -17,7 +17,7 @@ returns-in-Ask c =
     let small : c.in-Ask.opcode < 2147483648 = search rules in
     let e = c.put_numbers.ensures in
     let told = told_numbers (told_fields a.q) a.row.now 0 (ap told_fields (sym c.in-Ask.is)) (then (to_z_pos w32 c.in-Ask.opcode small) refl) e.answer e.filled in
-    record { answer = told.0; filled = told.1; }
+    record { answer = told.0; filled = told.1 }
 
 pub returns-in-Write : goal.returns-in-Write
 returns-in-Write c =
@@ -26,4 +26,4 @@ returns-in-Write c =
     let held : to_z w32 (of_z w32 c.in-Write.value) ≡ c.in-Write.value = search rules in
     let e = c.put_numbers-in-Write.ensures in
     let told = told_numbers (told_fields a.q) a.row.now 0 (ap told_fields (sym c.in-Write.is)) (then (to_z_pos w32 c.in-Write.register small) (then held refl)) e.answer e.filled in
-    record { answer = told.0; filled = told.1; }
+    record { answer = told.0; filled = told.1 }

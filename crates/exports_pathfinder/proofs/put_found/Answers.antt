@@ -12,7 +12,7 @@ use Rattle.exports_pathfinder.proofs.put_found.Goals as goal
 pub returns-then-found-lt2 : goal.returns-then-found-lt2
 returns-then-found-lt2 c = let a = c.args in
     let told = no_room 1 (a.place ∷ a.len ∷ []) a.found.now (search rules) in
-    record { answer = told.0; filled = told.1; }
+    record { answer = told.0; filled = told.1 }
 
 pub returns : goal.returns
 returns c =

@@ -15,7 +15,7 @@ use Rattle.exports_values_pathfinder.proofs.put_value.Goals as goal
 pub returns-then-value-lt1 : goal.returns-then-value-lt1
 returns-then-value-lt1 c = let a = c.args in
     let told = no_room a.kind (a.v ∷ []) a.value.now (search rules) in
-    record { answer = told.0; filled = told.1; }
+    record { answer = told.0; filled = told.1 }
 
 pub returns : goal.returns
 returns c =

@@ -15,7 +15,7 @@ returns-in-Number c =
     let e = c.put_value.ensures in
     let held : to_z w64 (of_z w64 c.in-Number.v) ≡ c.in-Number.v = search rules in
     let told = told_numbers (told_row a.r) a.value.now 0 (ap told_row (sym c.in-Number.is)) (then held refl) e.answer e.filled in
-    record { answer = told.0; filled = told.1; }
+    record { answer = told.0; filled = told.1 }
 
 pub returns-in-TenMillivolts : goal.returns-in-TenMillivolts
 returns-in-TenMillivolts c =
@@ -24,7 +24,7 @@ returns-in-TenMillivolts c =
     let v = c.wide.result in
     let held : to_z w64 (of_z w64 v) ≡ v = search rules in
     let told = told_numbers (told_row a.r) a.value.now 0 (ap told_row (sym c.in-TenMillivolts.is)) (then (held ∙ c.wide.ensures) refl) e.answer e.filled in
-    record { answer = told.0; filled = told.1; }
+    record { answer = told.0; filled = told.1 }
 
 pub returns-in-Truth : goal.returns-in-Truth
 returns-in-Truth c =
@@ -33,4 +33,4 @@ returns-in-Truth c =
     let v = c.bit.result in
     let held : to_z w64 (of_z w64 v) ≡ v = search rules in
     let told = told_numbers (told_row a.r) a.value.now 0 (ap told_row (sym c.in-Truth.is)) (then (held ∙ c.bit.ensures) refl) e.answer e.filled in
-    record { answer = told.0; filled = told.1; }
+    record { answer = told.0; filled = told.1 }
