@@ -15,7 +15,6 @@ use Rattle.laws.specs.Choice.{pick}
 use Rattle.restore_order.specs.Slots.{writes, slots}
 use Rattle.restore_rules.specs.declared.First.TheVariants.{At, Nothing}
 use Rattle.restore_rules.specs.Rules.{first_of}
-use Rattle.restore_jobs.specs.contracts.Phase.{the_type}
 use Rattle.restore_jobs.specs.declared.Phase.{Phase}
 use Rattle.restore_jobs.specs.declared.Phase.TheVariants.{Ready, Waiting, Stopped}
 use Rattle.restore_jobs.specs.declared.Job.{Job}

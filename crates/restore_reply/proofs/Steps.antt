@@ -15,7 +15,6 @@ use Rattle.restore_order.specs.Machine as M
 use Rattle.restore_jobs.specs.declared.Phase.{Phase}
 use Rattle.restore_jobs.specs.declared.Phase.TheVariants.{Ready, Waiting, Stopped}
 use Rattle.restore_jobs.specs.declared.Job.{Job}
-use Rattle.restore_jobs.specs.contracts.Phase.{the_type}
 use Rattle.restore_reply.specs.declared.Outcome.TheVariants.{Written as Marked, Failure}
 use Rattle.restore_reply.specs.declared.Answer.{Answer}
 use Rattle.restore_reply.specs.declared.Answer.TheVariants.{Taken, Refused}

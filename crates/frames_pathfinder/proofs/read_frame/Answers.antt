@@ -21,40 +21,22 @@ pub overflow_add-fits : goal.overflow_add-fits
 overflow_add-fits c = omega (arith, c.shared_slice_known-3-1.given 1)
 
 pub returns-then-not-starts : goal.returns-then-not-starts
-returns-then-not-starts c = c.refused-then-not-starts.ensures ∙ wrong_start _ (search rules) (ne_eqb _ _ c.if-not-starts.true)
+returns-then-not-starts c = grind (arith, wrong_start)
 
 pub returns-then-not-fits : goal.returns-then-not-fits
-returns-then-not-fits c =
-    c.refused-then-not-fits.ensures
-    ∙ wrong_length _ (search rules) (eq-eqb _ _ c.if-not-starts.false) (ne_eqb _ _ c.if-not-fits.true)
+returns-then-not-fits c = grind (arith, wrong_length)
 
 pub returns-then-not-ends : goal.returns-then-not-ends
 returns-then-not-ends c =
-    let f : Fitting c.args.s.now =
-    record {
-      long = search rules;
-      starts = eq-eqb _ _ c.if-not-starts.false;
-      fits = eq-eqb _ _ c.if-not-fits.false;
-    } in
-    c.refused-then-not-ends.ensures ∙ wrong_end _ f (ne_eqb _ _ c.if-not-ends.true)
+    let f : Fitting c.args.s.now = record { long = search rules; starts = search rules; fits = search rules } in
+    grind (arith, wrong_end, f)
 
 pub returns-then-not-closes : goal.returns-then-not-closes
 returns-then-not-closes c =
-    let f : Fitting c.args.s.now =
-    record {
-      long = search rules;
-      starts = eq-eqb _ _ c.if-not-starts.false;
-      fits = eq-eqb _ _ c.if-not-fits.false;
-    } in
-    c.refused-then-not-closes.ensures
-    ∙ wrong_sum _ f (eq-eqb _ _ c.if-not-ends.false) (sym c.has_sum-closes.ensures ∙ c.if-not-closes.true)
+    let f : Fitting c.args.s.now = record { long = search rules; starts = search rules; fits = search rules } in
+    grind (arith, wrong_sum, f)
 
 pub returns : goal.returns
 returns c =
-    let f : Fitting c.args.s.now =
-    record {
-      long = search rules;
-      starts = eq-eqb _ _ c.if-not-starts.false;
-      fits = eq-eqb _ _ c.if-not-fits.false;
-    } in
-    taken _ f (eq-eqb _ _ c.if-not-ends.false) (sym c.has_sum-closes.ensures ∙ c.if-not-closes.false)
+    let f : Fitting c.args.s.now = record { long = search rules; starts = search rules; fits = search rules } in
+    grind (arith, taken, f)

