@@ -1,12 +1,9 @@
 -- `frames_pathfinder::read_frame` meets its contract: each way out is a law of the ladder, from the tests that led there.
 -- Assumes nothing.
-use mathlib.Core.Path.{sym, ◌∙◌}
-use mathlib.Core.List.{List}
-use Prim.Native.Nat.{ℕ}
+use mathlib.Core.Path.{◌∙◌}
 use native.Mathlib.Omega.{arith}
 use mir.Syntax.{w8}
 use mir.Facts.{Fits-widen}
-use borrow.Author.Tests.{not-true, not-false, ne_eqb, eq-eqb}
 use Rattle.frames_pathfinder.proofs.Ladder.{too_short, wrong_start, wrong_length, Fitting, wrong_end, wrong_sum, taken}
 use borrow.Author.Rules.{rules}
 use Rattle.frames_pathfinder.proofs.read_frame.Goals as goal

@@ -1,8 +1,7 @@
 -- `records_pathfinder::judge_words` meets its contract: the size of the data, then the room.
 -- Assumes nothing.
 use native.Mathlib.Omega.{arith}
-use mathlib.Core.Path.{sym, ◌∙◌}
-use borrow.Author.Tests.{not-true, not-false, leb-true, leb-false, eqb-true, eqb-false, eq-eqb}
+use borrow.Author.Tests.{eqb-true, eqb-false}
 use Rattle.records_pathfinder.proofs.Answers.{words_misshapen, words_no_room, words_read}
 use Rattle.records_pathfinder.proofs.judge_words.Goals as goal
 

@@ -1,11 +1,8 @@
 -- `requests_pathfinder::fault_of_write` meets its contract: the register first, then the value's range.
 -- Assumes nothing.
 use native.Mathlib.Omega.{arith}
-use mathlib.Core.Path.{◌≡◌, sym, ap, ◌∙◌}
-use borrow.Author.Tests.{not-true, not-false}
 use mir.Syntax.{w32}
 use mir.ValLaws.{to_z-of_z}
-use Rattle.registers_pathfinder.specs.Registers.{in_range}
 use Rattle.requests_pathfinder.proofs.Judged.{no_register, no_value, write_right}
 use Rattle.requests_pathfinder.proofs.fault_of_write.Goals as goal
 

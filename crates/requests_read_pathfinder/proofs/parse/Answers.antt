@@ -1,10 +1,7 @@
 -- `requests_read_pathfinder::parse` meets its contract: each way by the law for its opcodes.
 -- Assumes nothing.
 use native.Mathlib.Omega.{arith}
-use mathlib.Core.Path.{sym, ◌∙◌}
-use borrow.Author.Tests.{not-true, not-false, eqb-true, eqb-false, ne_eqb, eq-eqb}
 use Rattle.requests_read_pathfinder.proofs.Judged.{parsed_set_lem, parsed_unlisted, parsed_misshapen, parsed_ask}
-use borrow.Author.Rules.{rules}
 use Rattle.requests_read_pathfinder.proofs.parse.Goals as goal
 
 pub returns-then-opcode-eq14 : goal.returns-then-opcode-eq14

@@ -3,18 +3,15 @@
 -- Assumes nothing.
 use native.Mathlib.Omega.{arith}
 use mathlib.Core.Path.{◌≡◌, sym, ap, ◌∙◌}
-use mathlib.Core.Bool.{true}
 use lib.IntN.{ℤ}
 use lib.ListN.{length}
 use mir.Syntax.{w32}
 use mir.Val.{of_z, to_z}
-use borrow.Author.Tests.{not-true, not-false, leb-true, leb-false, eq-eqb}
 use Rattle.refusals.specs.Writing.{room_after}
 use Rattle.requests_pathfinder.specs.declared.Request.TheVariants.{Write}
 use Rattle.requests_pathfinder.specs.Requests.{frame_for, sent_as}
 use Rattle.restore_order.specs.Slots.{at}
 use Rattle.restore_rules.proofs.Numbers.{from_bits}
-use Rattle.restore_next.specs.Next.{is_ready}
 use Rattle.restore_next.proofs.Steps.{out_of_turn, nothing_to_write, no_room, one_write, first_below}
 use Rattle.restore_next.proofs.next.Goals as goal
 
@@ -51,6 +48,6 @@ returns c =
     let room : c.write_set-written.new.out ≡ room_after c.write_set-written.result (frame_for (Write c.in-At.register (at a.job.wanted c.in-At.register))) a.out.now =
     c.write_set-written.ensures.room ∙ ap (λ (z : ℤ). room_after c.write_set-written.result (frame_for (Write c.in-At.register z)) a.out.now) e in
     let all =
-    one_write a.job a.out.now ((cc)) c.in-At.register (sym c.first_write.ensures ∙ c.in-At.is) (omega arith)
+    one_write a.job a.out.now (cc) c.in-At.register (sym c.first_write.ensures ∙ c.in-At.is) (omega arith)
     c.write_set-written.result answer in
     record { answer = c.sent.ensures ∙ all.0; room = room ∙ all.1 }

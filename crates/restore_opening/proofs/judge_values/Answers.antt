@@ -1,11 +1,6 @@
--- `judge_values` meets its contract. A helper for each test that was passed; each way out is then a law of `Judging`.
+-- `judge_values` meets its contract: each way out is a law of `Judging`, from the tests that led there.
 -- Assumes nothing.
-use mathlib.Core.Path.{◌≡◌, sym, ◌∙◌}
-use mathlib.Core.Bool.{true}
-use borrow.Author.Tests.{not-true, not-false}
 use native.Mathlib.Omega.{arith}
-use Rattle.restore_order.specs.Slots.{slots, sides}
-use Rattle.restore_order.specs.Opening.{pathfinder, shapely, unmoved, ranged}
 use Rattle.restore_opening.proofs.Judging.{sized, misshapen, fixed_moved, out_of_range, wanted_crossed, present_crossed, accepted}
 use Rattle.restore_opening.proofs.judge_values.Goals as goal
 
