@@ -43,6 +43,9 @@ pub record Fitting (s : List ℕ) : Type 0 where
   pub starts : eqb (get_or s 0 0) 0xFE ≡ true
   pub fits : eqb (length s) (declared s + 5) ≡ true
 
+pub fitting : (s : List ℕ) → 6 ≤ length s → eqb (get_or s 0 0) 0xFE ≡ true → eqb (length s) (declared s + 5) ≡ true → Fitting s
+fitting s l m n = record { long = l; starts = m; fits = n }
+
 module _ (s : List ℕ) (k : Fitting s) where
   size : length s ≡ declared s + 5
   size = eqb-true _ _ k.fits

@@ -1,15 +1,11 @@
 -- The ways out of reply, each from the facts that the code has there: by the phase, then by what the machine hears.
 -- Assumes nothing.
 use mathlib.Core.Path.{◌≡◌, refl, sym, ap, ◌∙◌}
-use mathlib.Core.List.{List, [], ◌∷◌}
-use mathlib.Core.Logic.{⊎_elim}
+use mathlib.Core.List.{List}
 use Prim.Native.Nat.{ℕ}
 use native.Mathlib.Omega.{arith}
 use lib.IntN.{ℤ}
-use types.Run.{OneOf}
-use denote.Enum.Declared.{tag_of}
 use Rattle.refusals.specs.declared.Refusal.{Refusal}
-use Rattle.refusals.specs.Refused.{refused_with, turn}
 use Rattle.restore_order.specs.Slots.{put}
 use Rattle.restore_order.specs.Machine as M
 use Rattle.restore_jobs.specs.declared.Phase.{Phase}

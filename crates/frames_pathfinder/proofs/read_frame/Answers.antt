@@ -1,15 +1,13 @@
 -- `frames_pathfinder::read_frame` meets its contract: each way out is a law of the ladder, from the tests that led there.
 -- Assumes nothing.
-use mathlib.Core.Path.{◌∙◌}
 use native.Mathlib.Omega.{arith}
 use mir.Syntax.{w8}
 use mir.Facts.{Fits-widen}
-use Rattle.frames_pathfinder.proofs.Ladder.{too_short, wrong_start, wrong_length, Fitting, wrong_end, wrong_sum, taken}
-use borrow.Author.Rules.{rules}
+use Rattle.frames_pathfinder.proofs.Ladder.{too_short, wrong_start, wrong_length, fitting, wrong_end, wrong_sum, taken}
 use Rattle.frames_pathfinder.proofs.read_frame.Goals as goal
 
 pub returns-then-s-lt6 : goal.returns-then-s-lt6
-returns-then-s-lt6 c = c.refused.ensures ∙ too_short _ (search rules)
+returns-then-s-lt6 c = grind (arith, too_short)
 
 pub overflow_cast-fits : goal.overflow_cast-fits
 overflow_cast-fits c = Fits-widen {w = w8} tt (c.shared_slice_known-3-1.given _)
@@ -24,16 +22,10 @@ pub returns-then-not-fits : goal.returns-then-not-fits
 returns-then-not-fits c = grind (arith, wrong_length)
 
 pub returns-then-not-ends : goal.returns-then-not-ends
-returns-then-not-ends c =
-    let f : Fitting c.args.s.now = record { long = search rules; starts = search rules; fits = search rules } in
-    grind (arith, wrong_end, f)
+returns-then-not-ends c = grind (arith, wrong_end, fitting)
 
 pub returns-then-not-closes : goal.returns-then-not-closes
-returns-then-not-closes c =
-    let f : Fitting c.args.s.now = record { long = search rules; starts = search rules; fits = search rules } in
-    grind (arith, wrong_sum, f)
+returns-then-not-closes c = grind (arith, wrong_sum, fitting)
 
 pub returns : goal.returns
-returns c =
-    let f : Fitting c.args.s.now = record { long = search rules; starts = search rules; fits = search rules } in
-    grind (arith, taken, f)
+returns c = grind (arith, taken, fitting)

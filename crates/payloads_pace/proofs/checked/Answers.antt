@@ -1,7 +1,7 @@
 -- `payloads_pace::checked` meets its contract: the characters first, then the bytes.
 -- Assumes nothing.
 use native.Mathlib.Omega.{arith}
-use mathlib.Core.Path.{sym, ap, ◌∙◌}
+use mathlib.Core.Path.{ap, ◌∙◌}
 use Rattle.characters_pace.proofs.Checked.{checked_refused, checked_bytes}
 use Rattle.payloads_pace.specs.Payload.{nothing, refused_reply}
 use Rattle.payloads_pace.proofs.checked.Goals as goal

@@ -1,7 +1,7 @@
 -- `settings_pace::parse_setting` meets its contract: the characters first, then the bytes.
 -- Assumes nothing.
 use native.Mathlib.Omega.{arith}
-use mathlib.Core.Path.{sym, ap, ◌∙◌}
+use mathlib.Core.Path.{ap, ◌∙◌}
 use Rattle.refusals.specs.Refused.{refused_with}
 use Rattle.characters_pace.proofs.Checked.{checked_refused, checked_bytes}
 use Rattle.settings_pace.specs.declared.Found.TheVariants.{Refused}
