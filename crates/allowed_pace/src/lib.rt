@@ -1,7 +1,7 @@
 // What may be written to a PACE pack: the values of a setting in the ranges and steps of its layout (004, "Parameter Setting" tab; 01, PACE).
 #![tactic(auto)]
 
-ghost use Rattle.std.specs.Prelude.{◌≡◌, ◌<◌};
+ghost use Rattle.std.specs.Prelude.{◌≡◌, ◌<◌, ◌↔◌, IsTrue, EachIndex, slice_index, true};
 ghost use Rattle.characters_pace.specs.Characters.{all_of};
 ghost use Rattle.layouts_pace.specs.Settings.{layout_of};
 ghost use Rattle.allowed_pace.specs.Allowed.{in_steps, allowed, allowed_of};
@@ -33,44 +33,30 @@ pub fn may_write(v: Values) -> bool
     }
 }
 
+#[tactic(auto, using(layouts_pace::proofs::Settings::steps))]
 fn may_hold(setting: Setting, amounts: &[u16], delay: u8) -> bool
     ensures { result ≡ allowed (layout_of setting) amounts.now delay }
 {
     let layout = layout_of(setting);
-    if !all_within(layout.low, layout.high, layout.step, amounts) {
-        return false;
-    }
-    is_within(
-        layout.delay_low as u16,
-        layout.delay_high as u16,
-        layout.delay_step as u16,
-        delay as u16,
-    )
+    all_within(layout.low, layout.high, layout.step, amounts)
+        && is_within(
+            layout.delay_low as u16,
+            layout.delay_high as u16,
+            layout.delay_step as u16,
+            delay as u16,
+        )
 }
 
 fn all_within(low: u16, high: u16, step: u16, amounts: &[u16]) -> bool
     requires { 0 < step }
-    ensures { result ≡ all_of (in_steps low high step) amounts.now }
+    ensures { IsTrue result ↔ EachIndex amounts.now (λ k. in_steps low high step (slice_index amounts.now k) ≡ true) }
 {
-    let mut i = 0;
-    while i < amounts.len() {
-        if !is_within(low, high, step, amounts[i]) {
-            return false;
-        }
-        i += 1;
-    }
-    true
+    amounts.iter().all(|&n| is_within(low, high, step, n))
 }
 
 fn is_within(low: u16, high: u16, step: u16, n: u16) -> bool
     requires { 0 < step }
     ensures { result ≡ in_steps low high step n }
 {
-    if n < low {
-        return false;
-    }
-    if high < n {
-        return false;
-    }
-    (n - low) % step == 0
+    low <= n && n <= high && (n - low) % step == 0
 }

@@ -2,18 +2,18 @@
 // INFO comes as characters; where they are no bytes that is refused first, and the rest is said of the bytes that they carry.
 #![tactic(auto)]
 
-ghost use Rattle.std.specs.Prelude.{◌≡◌, ◌++◌, ◌+◌, ◌*◌, ◌≤◌, pos, drop, replicate};
+ghost use Rattle.std.specs.Prelude.{◌≡◌, ◌≤◌, length};
 ghost use Rattle.characters_pace.specs.Characters.{bytes_in, checked_info};
-ghost use Rattle.analog_pace.specs.Analog.{tenths_of, tenths_at, numbers_of, nothing, with_counts, reading_of};
+ghost use Rattle.analog_pace.specs.Analog.{tenths_of, tenths_at, numbers_of, with_counts, reading_of};
 
 use characters_pace::{byte_of, word_of};
-use counts_pace::{Counts, counts_of};
+use counts_pace::counts_of;
 use lists_pace::words_of;
-use refusals::{Refusal, refuse};
+use refusals::Refusal;
 use signs::signed16;
 
 // The counts of cells and temperatures, and the numbers behind their values.
-#[derive(Drop)]
+#[derive(Clone, Copy, Debug, PartialEq, Eq)]
 pub struct Analog {
     pub cells: u8,
     pub temperatures: u8,
@@ -25,61 +25,41 @@ pub struct Analog {
     pub design_10mah: u16,
 }
 
-#[derive(Drop)]
-pub enum Found {
-    Analog(Analog),
-    Refused(Refusal),
-}
-
-// What was found, with the cells' millivolts and the temperatures in tenths of a degree; places past a count are 0.
-#[derive(Drop)]
+// The numbers, with the cells' millivolts and the temperatures in tenths of a degree; places past a count are 0.
+#[derive(Clone, Copy, Debug, PartialEq, Eq)]
 pub struct Reading {
-    pub found: Found,
+    pub numbers: Analog,
     pub cells: [u16; 16],
     pub temperatures: [i32; 8],
 }
 
 // The analog information in INFO, or why there is none.
-pub fn read_analog(address: u8, info: &[u8]) -> Reading
-    ensures { result ≡ checked_info nothing (reading_of address) info.now }
+pub fn read_analog(address: u8, info: &[u8]) -> Result<Reading, Refusal>
+    ensures { result ≡ checked_info (reading_of address) info.now }
 {
-    let counts = counts_of(true, 13, address, info);
-    match counts {
-        Counts::Are {
-            cells,
-            temperatures,
-        } => with_counts(cells, temperatures, info),
-        Counts::Refused(why) => none(why),
-    }
+    let counts = counts_of(true, 13, address, info)?;
+    with_counts(counts.cells, counts.temperatures, info)
 }
 
 // The analog information of so many cells and temperatures.
-fn with_counts(cells: u8, temperatures: u8, info: &[u8]) -> Reading
+fn with_counts(cells: u8, temperatures: u8, info: &[u8]) -> Result<Reading, Refusal>
     requires { (cells ≤ 16) × (temperatures ≤ 8) }
     ensures { result ≡ with_counts cells temperatures (bytes_in info.now) }
 {
     let c = cells as usize;
     let t = temperatures as usize;
     if byte_of(info, 2 * c + 2 * t + 10) != 3 {
-        return none(refuse(refusals::SHAPE));
+        return Err(Refusal::Shape);
     }
     let mut volts = [0u16; 16];
     words_of(info, 3, &mut volts[0..c]);
-    Reading {
-        found: Found::Analog(numbers_of(cells, temperatures, info)),
+    let mut tenths = [0i32; 8];
+    put_tenths(info, 2 * c + 4, &mut tenths[0..t]);
+    Ok(Reading {
+        numbers: numbers_of(cells, temperatures, info),
         cells: volts,
-        temperatures: temperatures_of(2 * c + 4, t, info),
-    }
-}
-
-fn none(why: Refusal) -> Reading
-    ensures { result ≡ nothing why }
-{
-    Reading {
-        found: Found::Refused(why),
-        cells: [0u16; 16],
-        temperatures: [0i32; 8],
-    }
+        temperatures: tenths,
+    })
 }
 
 // The numbers behind the values of so many cells and temperatures.
@@ -99,18 +79,14 @@ fn numbers_of(cells: u8, temperatures: u8, info: &[u8]) -> Analog
     }
 }
 
-// So many temperatures from a place on.
-fn temperatures_of(at: usize, n: usize, info: &[u8]) -> [i32; 8]
-    requires { (at ≤ 36) × (n ≤ 8) }
-    ensures { result ≡ tenths_at at n (bytes_in info.now) ++ drop n (replicate 8 (pos 0)) }
+// Fills the row with the temperatures from a place on.
+fn put_tenths(info: &[u8], at: usize, row: &mut [i32])
+    requires { (at ≤ 36) × (length row.old ≤ 8) }
+    ensures { row.new ≡ tenths_at at (length row.old) (bytes_in info.now) }
 {
-    let mut row = [0i32; 8];
-    let mut i = 0;
-    while i < n {
-        row[i] = tenths_of(word_of(info, at + 2 * i));
-        i += 1;
+    for (i, place) in row.iter_mut().enumerate() {
+        *place = tenths_of(word_of(info, at + 2 * i));
     }
-    row
 }
 
 // Tenths of a degree Celsius.

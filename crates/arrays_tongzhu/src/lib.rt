@@ -14,8 +14,7 @@ use signs::signed8;
 pub fn read_lists(p: &[u8], at: usize) -> Lists
     ensures { result ≡ lists_at p.now at }
 {
-    let w = find_lists(p, at);
-    lists_in(p, w)
+    lists_in(p, find_lists(p, at))
 }
 
 #[tactic(auto, unfolding(monitor3_tongzhu::specs::Layout::lists_in))]
@@ -23,15 +22,11 @@ fn lists_in(p: &[u8], w: Places) -> Lists
     requires { Within (length p.now) w }
     ensures { result ≡ lists_in p.now w }
 {
-    let cells = cells_of(p, w.cells_from, w.cells);
-    let balance = flags_of(p, w.balance_from, w.balance);
-    let sensors = temperatures_of(p, w.sensors_from, w.sensors);
-    let mosfets = temperatures_of(p, w.mosfets_from, w.mosfets);
     Lists {
-        cells,
-        balance,
-        sensors,
-        mosfets,
+        cells: cells_of(p, w.cells_from, w.cells),
+        balance: flags_of(p, w.balance_from, w.balance),
+        sensors: temperatures_of(p, w.sensors_from, w.sensors),
+        mosfets: temperatures_of(p, w.mosfets_from, w.mosfets),
     }
 }
 
@@ -53,27 +48,20 @@ fn cells_of(q: &[u8], from: usize, n: usize) -> [u16; 32]
     ensures { result ≡ places_of 32 0 (λ i. number_at q.now (from + 2 * i)) n }
 {
     let mut a = [0u16; 32];
-    let mut i = 0;
-    while i < n {
+    for (i, cell) in a[..n].iter_mut().enumerate() {
         let at = from + 2 * i;
-        a[i] = number16(Order::LowFirst, q[at], q[at + 1]);
-        i += 1;
+        *cell = number16(Order::LowFirst, q[at], q[at + 1]);
     }
     a
 }
 
 // n bytes of the balanced state from the place `from` on.
-#[tactic(auto, unfolding(laws::specs::Firsts::firsts))]
 fn flags_of(q: &[u8], from: usize, n: usize) -> [u8; 4]
     requires { (n ≤ 4) × (from + n ≤ length q.now) }
     ensures { result ≡ places_of 4 0 (λ i. get_or q.now (from + i) 0) n }
 {
     let mut a = [0u8; 4];
-    let mut i = 0;
-    while i < n {
-        a[i] = q[from + i];
-        i += 1;
-    }
+    a[..n].copy_from_slice(&q[from..from + n]);
     a
 }
 
@@ -84,10 +72,8 @@ fn temperatures_of(q: &[u8], from: usize, n: usize) -> [i8; 16]
     ensures { result ≡ places_of 16 (pos 0) (λ i. temperature_at q.now (from + i)) n }
 {
     let mut a = [0i8; 16];
-    let mut i = 0;
-    while i < n {
-        a[i] = signed8(q[from + i]);
-        i += 1;
+    for (i, temperature) in a[..n].iter_mut().enumerate() {
+        *temperature = signed8(q[from + i]);
     }
     a
 }

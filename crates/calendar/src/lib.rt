@@ -1,5 +1,5 @@
 // Real Gregorian dates of 2000 to 2099 and times of day (01, Tongzhu, function 30).
-#![tactic(auto)]
+#![tactic(auto, using(crate::proofs::Leaps::each_fourth), unfolding(crate::specs::Dates::real_date, crate::specs::Dates::real_time, crate::specs::Dates::days, crate::specs::Dates::days_in))]
 
 ghost use Rattle.std.specs.Prelude.{◌≡◌, ◌+◌, ◌≤◌};
 ghost use Rattle.calendar.specs.Dates.{days_in, real_date, real_time};
@@ -8,28 +8,14 @@ ghost use Rattle.calendar.specs.Dates.{days_in, real_date, real_time};
 pub fn is_date(year: u8, month: u8, day: u8) -> bool
     ensures { result ≡ real_date year month day }
 {
-    if year < 100 {
-        if 1 <= month {
-            if month <= 12 {
-                if 1 <= day {
-                    return day <= days_in(year, month);
-                }
-            }
-        }
-    }
-    false
+    year < 100 && 1 <= month && month <= 12 && 1 <= day && day <= days_in(year, month)
 }
 
 // Whether there is such a time of day, to 23:59:59.
 pub fn is_time(hour: u8, minute: u8, second: u8) -> bool
     ensures { result ≡ real_time hour minute second }
 {
-    if hour < 24 {
-        if minute < 60 {
-            return second < 60;
-        }
-    }
-    false
+    hour < 24 && minute < 60 && second < 60
 }
 
 // The days of each month of a year that is no leap year.
@@ -40,11 +26,8 @@ fn days_in(year: u8, month: u8) -> u8
     requires { (year ≤ 99) × (1 ≤ month) × (month ≤ 12) }
     ensures { result ≡ days_in (2000 + year) month }
 {
-    let days = DAYS[(month - 1) as usize];
-    if month == 2 {
-        if year % 4 == 0 {
-            return 29;
-        }
+    if month == 2 && year % 4 == 0 {
+        return 29;
     }
-    days
+    DAYS[(month - 1) as usize]
 }

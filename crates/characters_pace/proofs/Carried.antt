@@ -9,13 +9,13 @@ use native.Mathlib.Omega.{arith}
 use borrow.Author.Tests.{ltb-true, ltb-false, le-ltb}
 use lib.Dec.{ltb}
 use lib.ListN.{length, get_or, get_or-eq_default}
-use Rattle.digits.specs.declared.Hex.{Hex}
-use Rattle.digits.specs.declared.Hex.TheVariants.{Value, Other}
+use Rattle.std.specs.Prelude.{Option, Some, None}
 use Rattle.digits.specs.Hexes.{digit_of, byte_of, joined, char_of}
 use Rattle.digits.proofs.Characters.{digit_reads_back, digit_small, byte_reads_back, byte_writes_back}
 use Rattle.laws.proofs.Ladders.{both}
 use Rattle.numbers.proofs.Orders.{Bytes}
-use Rattle.characters_pace.specs.Characters.{value_in, is_value, all_of, all_hex, bytes_in, halves, hexed}
+use Rattle.std.specs.Option.{is_some}
+use Rattle.characters_pace.specs.Characters.{value_in, all_of, all_hex, bytes_in, halves, hexed}
 use Rattle.characters_pace.proofs.Halves.{halves_length}
 
 -- ---- places
@@ -48,46 +48,46 @@ pub hexed_all : (bs : List ℕ) → Bytes bs → all_hex (hexed bs) ≡ true
 unfolding halves all_of Bytes
 hexed_all [] h = refl
 hexed_all (b ∷ bs) h =
-    let high : digit_of (char_of (b / 16)) ≡ Value (b / 16) = digit_reads_back (b / 16) (omega (arith, h.0)) in
-    let low : digit_of (char_of (b % 16)) ≡ Value (b % 16) = digit_reads_back (b % 16) (omega (arith, h.0)) in
+    let high : digit_of (char_of (b / 16)) ≡ Some (b / 16) = digit_reads_back (b / 16) (omega (arith, h.0)) in
+    let low : digit_of (char_of (b % 16)) ≡ Some (b % 16) = digit_reads_back (b % 16) (omega (arith, h.0)) in
     rw (high, low) (hexed_all bs h.1)
 
 pub hexed_reads_back : (bs : List ℕ) → Bytes bs → bytes_in (hexed bs) ≡ bs
 unfolding halves bytes_in Bytes
 hexed_reads_back [] h = refl
-hexed_reads_back (b ∷ bs) h = ap₂ (λ (d : Hex) (l : List ℕ). value_in d ∷ l) (byte_reads_back b h.0) (hexed_reads_back bs h.1)
+hexed_reads_back (b ∷ bs) h = ap₂ (λ (d : Option ℕ) (l : List ℕ). value_in d ∷ l) (byte_reads_back b h.0) (hexed_reads_back bs h.1)
 
 -- ---- read, then written
 
 -- a digit is a byte
-digit_byte : (c : ℕ) → is_value (digit_of c) ≡ true → c < 256
+digit_byte : (c : ℕ) → is_some (digit_of c) ≡ true → c < 256
 unfolding digit_of
 digit_byte c e = go (ltb c 71) refl e
   where
-    go : (t : Bool) → ltb c 71 ≡ t → is_value (digit_of c) ≡ true → c < 256
+    go : (t : Bool) → ltb c 71 ≡ t → is_some (digit_of c) ≡ true → c < 256
     go true h e = omega (arith, ltb-true c 71 h)
     go false h e =
         let far = ltb-false c 71 h in
-        let off : is_value (digit_of c) ≡ false = simp (le-ltb c 48 (omega arith), le-ltb c 58 (omega arith), le-ltb c 65 (omega arith), h) in
+        let off : is_some (digit_of c) ≡ false = simp (le-ltb c 48 (omega arith), le-ltb c 58 (omega arith), le-ltb c 65 (omega arith), h) in
         let z : ◌≡◌ {A = ℕ} 0 1 = cc in
         absurd (omega arith)
 
 -- two digits are a byte
-pair_byte : (h l : ℕ) → is_value (digit_of h) ≡ true → is_value (digit_of l) ≡ true → (value_in (byte_of h l) < 256) × (byte_of h l ≡ Value (value_in (byte_of h l)))
+pair_byte : (h l : ℕ) → is_some (digit_of h) ≡ true → is_some (digit_of l) ≡ true → (value_in (byte_of h l) < 256) × (byte_of h l ≡ Some (value_in (byte_of h l)))
 pair_byte h l eh el = go (digit_of h) (digit_of l) refl refl eh el
   where
-    go : (d f : Hex) → digit_of h ≡ d → digit_of l ≡ f → is_value d ≡ true → is_value f ≡ true
-        → (value_in (joined d f) < 256) × (joined d f ≡ Value (value_in (joined d f)))
-    go (Value x) (Value y) dx fy p q = (omega (arith, digit_small h x (digit_byte h eh) dx, digit_small l y (digit_byte l el) fy), refl)
-    go (Value x) Other dx fy p q = let z : ◌≡◌ {A = ℕ} 0 1 = cc in absurd (omega arith)
-    go Other f dx fy p q = let z : ◌≡◌ {A = ℕ} 0 1 = cc in absurd (omega arith)
+    go : (d f : Option ℕ) → digit_of h ≡ d → digit_of l ≡ f → is_some d ≡ true → is_some f ≡ true
+        → (value_in (joined d f) < 256) × (joined d f ≡ Some (value_in (joined d f)))
+    go (Some x) (Some y) dx fy p q = (omega (arith, digit_small h x (digit_byte h eh) dx, digit_small l y (digit_byte l el) fy), refl)
+    go (Some x) None dx fy p q = absurd cc
+    go None f dx fy p q = absurd cc
 
 -- what the first two of some digits are
-first_two : (h l : ℕ) (s : List ℕ) → all_hex (h ∷ l ∷ s) ≡ true → (is_value (digit_of h) ≡ true) × ((is_value (digit_of l) ≡ true) × (all_hex s ≡ true))
+first_two : (h l : ℕ) (s : List ℕ) → all_hex (h ∷ l ∷ s) ≡ true → (is_some (digit_of h) ≡ true) × ((is_some (digit_of l) ≡ true) × (all_hex s ≡ true))
 unfolding all_of
 first_two h l s e =
-    let a = both (is_value (digit_of h)) (is_value (digit_of l) && all_hex s) e in
-    let b = both (is_value (digit_of l)) (all_hex s) a.1 in
+    let a = both (is_some (digit_of h)) (is_some (digit_of l) && all_hex s) e in
+    let b = both (is_some (digit_of l)) (all_hex s) a.1 in
     (a.0, (b.0, b.1))
 
 pub bytes_small : (s : List ℕ) → all_hex s ≡ true → Bytes (bytes_in s)

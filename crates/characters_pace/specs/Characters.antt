@@ -1,24 +1,18 @@
 -- Bytes and the characters that carry them, two hex digits a byte, the high one first (01, PACE).
 -- Assumes nothing.
-use Rattle.std.specs.Prelude.{Bool, true, false, ◌&&◌, List, [], ◌∷◌, ℕ, ◌+◌, ◌*◌, ◌/◌, ◌%◌, eqb, length, get_or}
+use Rattle.std.specs.Prelude.{Bool, true, ◌&&◌, List, [], ◌∷◌, Option, unwrap_or, Result, Ok, Err, ℕ, ◌+◌, ◌*◌, ◌/◌, ◌%◌, eqb, length, get_or}
+use Rattle.std.specs.Option.{is_some}
 use Rattle.laws.specs.Choice.{pick}
 use Rattle.laws.specs.Firsts.{firsts}
 use Rattle.refusals.specs.declared.Refusal.{Refusal}
-use Rattle.refusals.specs.Refused.{refused_with, shape, character}
-use Rattle.digits.specs.declared.Hex.{Hex}
-use Rattle.digits.specs.declared.Hex.TheVariants.{Value, Other}
+use Rattle.refusals.specs.declared.Refusal.TheVariants as refusal
 use Rattle.digits.specs.Hexes.{digit_of, byte_of, char_of}
 use Rattle.numbers.specs.declared.Order.TheVariants.{HighFirst}
 use Rattle.numbers.specs.Bytes.{number_of}
 
 -- what a reading holds; 0 where there is none (no character of a whole frame is read so, and none of INFO)
-abbrev pub value_in : Hex → ℕ
-value_in (Value v) = v
-value_in Other = 0
-
-abbrev pub is_value : Hex → Bool
-is_value (Value v) = true
-is_value Other = false
+abbrev pub value_in : Option ℕ → ℕ
+value_in d = unwrap_or d 0
 
 -- a test that holds of each
 unfoldable pub all_of : (ℕ → Bool) → List ℕ → Bool
@@ -27,7 +21,7 @@ all_of p (x ∷ s) = p x && all_of p s
 
 -- every character is one of 0-9 and A-F
 abbrev pub all_hex : List ℕ → Bool
-all_hex s = all_of (λ c. is_value (digit_of c)) s
+all_hex s = all_of (λ c. is_some (digit_of c)) s
 
 -- the bytes of characters taken two by two; one left over is no byte
 unfoldable pub bytes_in : List ℕ → List ℕ
@@ -35,13 +29,18 @@ bytes_in [] = []
 bytes_in (h ∷ []) = []
 bytes_in (h ∷ l ∷ s) = value_in (byte_of h l) ∷ bytes_in s
 
--- why characters are no bytes: one other than 0-9 or A-F is 13; "An odd INFO count is 8"; 0 where they are (01, Refusal numbers: 13 before 8)
-unfoldable pub fault_of : List ℕ → ℕ
-fault_of s = pick (all_hex s) (pick (eqb (length s % 2) 0) 0 shape) character
+-- why characters are no bytes, if they are none: one other than 0-9 or A-F is 13; "An odd INFO count is 8" (01, Refusal numbers: 13 before 8)
+unfoldable pub fault_of : List ℕ → Result Unit Refusal
+fault_of s = pick (all_hex s) (pick (eqb (length s % 2) 0) (Ok tt) (Err refusal.Shape)) (Err refusal.Character)
+
+-- what was found, where there is no fault
+abbrev pub faultless : {A : Type 0} → Result Unit Refusal → Result A Refusal → Result A Refusal
+faultless (Ok sound) found = found
+faultless (Err why) found = Err why
 
 -- what a reader of bytes says of INFO, which is given as characters: why they are no bytes, before anything else
-unfoldable pub checked_info : {A : Type 0} → (Refusal → A) → (List ℕ → A) → List ℕ → A
-checked_info refused of_bytes s = pick (eqb (fault_of s) 0) (of_bytes (bytes_in s)) (refused (refused_with (fault_of s)))
+unfoldable pub checked_info : {A : Type 0} → (List ℕ → Result A Refusal) → List ℕ → Result A Refusal
+checked_info of_bytes s = faultless (fault_of s) (of_bytes (bytes_in s))
 
 -- each number as its high and its low half
 unfoldable pub halves : (ℕ → ℕ) → (ℕ → ℕ) → List ℕ → List ℕ

@@ -5,7 +5,7 @@ ghost use Rattle.std.specs.Prelude.{◌≡◌, get_or};
 ghost use Rattle.digits.specs.Hexes.{byte_of};
 ghost use Rattle.characters_pace.specs.Characters.{value_in, bytes_in, word_at};
 
-use digits::{Hex, read_byte};
+use digits::read_byte;
 use numbers::{Order, number16};
 
 // The byte at place i of the bytes that these characters are, 0 past their end.
@@ -34,9 +34,5 @@ pub fn word_of(s: &[u8], i: usize) -> u16
 fn pair_of(high: u8, low: u8) -> u8
     ensures { result ≡ value_in (byte_of high low) }
 {
-    let d = read_byte(high, low);
-    match d {
-        Hex::Value(b) => b,
-        Hex::Other => 0,
-    }
+    read_byte(high, low).unwrap_or(0)
 }

@@ -1,30 +1,28 @@
 // The checksum: CRC-16/XMODEM over bytes (000, Checksum; 01, Pathfinder).
 #![tactic(auto)]
 
-ghost use Rattle.std.specs.Prelude.{◌≡◌, ◌%◌, ◌<◌, length, take};
+ghost use Rattle.std.specs.Prelude.{◌≡◌, ◌<◌, take};
 ghost use Rattle.checks.specs.Crc.{shifts, crc_step, crc_from, crc_of};
 
-// The checksum of the bytes.
+// The checksum of the bytes: of the first alone, where their number is odd, and then two at a time.
 pub fn crc16(s: &[u8]) -> u16
     ensures { result ≡ crc_of s.now }
 {
-    let mut r = crc_first(s);
-    let mut i = s.len() % 2;
-    while i < s.len() {
-        r = crc_pair(r, s[i], s[i + 1]);
-        i += 2;
+    let (odd, pairs) = s.as_rchunks::<2>();
+    let mut r = crc_first(odd);
+    for pair in pairs {
+        r = crc_pair(r, pair[0], pair[1]);
     }
     r as u16
 }
 
-// The register after the first byte of an odd number of them, so that an even number is left.
-fn crc_first(s: &[u8]) -> u32
-    ensures { (result ≡ crc_from 0 (take (length s.now % 2) s.now)) × (result < 65536) }
+// The register after the first byte, of an odd number of them the only one here; 0 where there is none.
+fn crc_first(odd: &[u8]) -> u32
+    ensures { (result ≡ crc_from 0 (take 1 odd.now)) × (result < 65536) }
 {
-    if s.len() % 2 == 1 {
-        crc_pair(0, 0, s[0])
-    } else {
-        0
+    match odd.first() {
+        Some(byte) => crc_pair(0, 0, *byte),
+        None => 0,
     }
 }
 

@@ -2,7 +2,7 @@
 #![tactic(auto)]
 
 ghost use Rattle.std.specs.Prelude.{◌≡◌};
-ghost use Rattle.commands_pace.specs.Commands.{by_setting, command_of, listed};
+ghost use Rattle.commands_pace.specs.Commands.{by_setting, command_of};
 ghost use Rattle.layouts_pace.specs.Settings.{settings};
 
 use layouts_pace::{Setting, layout_of};
@@ -11,7 +11,7 @@ use layouts_pace::{Setting, layout_of};
 const SETTINGS: [Setting; 2] = [Setting::Overvoltage, Setting::Discharge];
 
 // What a command is for.
-#[derive(Clone, Copy)]
+#[derive(Clone, Copy, Debug, PartialEq, Eq)]
 pub enum Command {
     Analog,
     Warnings,
@@ -19,51 +19,34 @@ pub enum Command {
     Serial,
     Reads(Setting),
     Writes(Setting),
-    Unlisted,
 }
 
-pub fn command_of(code: u8) -> Command
+// The command of this code, if it is listed.
+#[tactic(auto, unfolding(crate::specs::Commands::command_of))]
+pub fn command_of(code: u8) -> Option<Command>
     ensures { result ≡ command_of code }
 {
     match code {
-        0x42 => Command::Analog,
-        0x44 => Command::Warnings,
-        0xC1 => Command::Hardware,
-        0xC2 => Command::Serial,
+        0x42 => Some(Command::Analog),
+        0x44 => Some(Command::Warnings),
+        0xC1 => Some(Command::Hardware),
+        0xC2 => Some(Command::Serial),
         _ => by_setting(code),
     }
 }
 
-// What a command is for by the settings' layouts.
-fn by_setting(code: u8) -> Command
+// The command of this code by the settings' layouts, if one names it.
+fn by_setting(code: u8) -> Option<Command>
     ensures { result ≡ by_setting settings code }
 {
-    let mut i = 0usize;
-    while i < SETTINGS.len() {
-        let setting = SETTINGS[i];
+    for &setting in &SETTINGS {
         let layout = layout_of(setting);
         if code == layout.reads {
-            return Command::Reads(setting);
+            return Some(Command::Reads(setting));
         }
         if code == layout.writes {
-            return Command::Writes(setting);
+            return Some(Command::Writes(setting));
         }
-        i += 1;
     }
-    Command::Unlisted
-}
-
-// Whether a command is one of those that are listed.
-pub fn is_listed(command: Command) -> bool
-    ensures { result ≡ listed command }
-{
-    match command {
-        Command::Analog => true,
-        Command::Warnings => true,
-        Command::Hardware => true,
-        Command::Serial => true,
-        Command::Reads(_) => true,
-        Command::Writes(_) => true,
-        Command::Unlisted => false,
-    }
+    None
 }

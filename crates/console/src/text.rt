@@ -1,5 +1,4 @@
-// Writing an answer into the room lent for it. Each function takes the place to write at and answers the place after what it wrote;
-// what does not fit is left out, and the room is larger than any answer.
+// Writing answers into the room that they are gathered in. What does not fit is left out, and the room is larger than any answer.
 //
 // An answer is a form: its text as docs/CONSOLE.md has it, in which a mark stands for a value that the call left in the row, in the text
 // lent to it, or in its own number:
@@ -14,265 +13,185 @@
 //     =     the answer's own number
 //     &     the answer's own number, a byte in hex
 //     $     as many bytes of the text, in hex; `-` for none
-use crate::words;
+//
+// A form stays a text: as a list of an enum's marks each would be several times as long, and read less like its line of docs/CONSOLE.md.
+ghost use Rattle.std.specs.Prelude.{◌≤◌};
+
+use crate::lines::{Answer, Desk};
 use crate::words::Fault;
+use std::io;
 
-// How far a form is written: the place of the next byte, the place of the row's next number, the last number written (first of all the
-// answer's own), and whether a place is being read.
-#[derive(Clone, Copy)]
-struct Spot {
-    at: usize,
+const HALF: usize = 32768;
+
+const DIGITS: [u8; 16] = *b"0123456789ABCDEF";
+
+// The answers that are not written yet, in a room of fixed size: there is no heap.
+#[derive(Drop)]
+pub struct Answers {
+    room: [u8; 65536],
+    filled: usize,
+    ghost inside: { filled ≤ 65536 },
+}
+
+// The values that a form shows: the row and the text, the place of the row's next number, a place that is being read, as far as it is, and the last
+// number that was written, first of all the answer's own.
+#[derive(Drop)]
+struct Values<'a> {
+    row: &'a [i32],
+    text: &'a [u8],
     place: usize,
-    last: u64,
-    inside: bool,
+    read: Option<usize>,
+    last: usize,
 }
 
-// An answer, by the form of its kind; forms are parted by bars, that of kind 1 first. Kind 0 is a refusal.
-pub fn put_answer(
-    out: &mut [u8],
-    at: usize,
-    forms: &[u8],
-    code: u64,
-    row: &[i32],
-    text: &[u8],
-) -> usize {
-    let kind = (code / 4294967296) as usize;
-    let number = code % 4294967296;
-    if kind == 0 {
-        return put_form(out, at, b"refused =", number, row, text);
+impl<'a> Values<'a> {
+    // The next number of the row.
+    fn next_number(&mut self) -> i32 {
+        let n = self.row.get(self.place).copied().unwrap_or(0);
+        self.place = self.place.saturating_add(1);
+        n
     }
-    put_form(
-        out,
-        at,
-        words::piece(forms, kind - 1, b'|'),
-        number,
-        row,
-        text,
-    )
-}
 
-fn put_form(
-    out: &mut [u8],
-    from: usize,
-    form: &[u8],
-    number: u64,
-    row: &[i32],
-    text: &[u8],
-) -> usize {
-    let mut s = at_spot(from, 0, number, false);
-    let mut i = 0;
-    while i < form.len() {
-        s = put_mark(out, s, form[i], row, text);
-        i += 1;
+    // The next number of the row, which says how long a list is.
+    fn next_count(&mut self) -> i32 {
+        let n = self.next_number();
+        self.last = n.cast_unsigned() as usize;
+        n
     }
-    put(out, s.at, b'\n')
-}
 
-fn at_spot(at: usize, place: usize, last: u64, inside: bool) -> Spot {
-    Spot {
-        at,
-        place,
-        last,
-        inside,
+    // The next two numbers of the row: the low and the high 32 bits of one.
+    fn next_long(&mut self) -> i64 {
+        let [a, b, c, d] = self.next_number().to_le_bytes();
+        let [e, f, g, h] = self.next_number().to_le_bytes();
+        i64::from_le_bytes([a, b, c, d, e, f, g, h])
     }
-}
 
-// The next byte of a form.
-fn put_mark(out: &mut [u8], s: Spot, c: u8, row: &[i32], text: &[u8]) -> Spot {
-    let at = s.at;
-    let place = s.place;
-    match c {
-        b'*' => past(s, put_list(out, at, row, place, s.last), 0),
-        b'+' => past(s, put_list(out, at, row, place, eighths(s.last)), 0),
-        b'$' => past(s, put_string(out, at, text, s.last), 0),
-        _ => put_single(out, s, c, bits_at(row, place), bits_at(row, next(place))),
-    }
-}
-
-// A byte of a form that is no list; the next two numbers of the row.
-fn put_single(out: &mut [u8], s: Spot, c: u8, a: u32, b: u32) -> Spot {
-    let at = s.at;
-    if s.inside {
-        return at_spot(at, further(s.place, c), s.last, c != b']');
-    }
-    match c {
-        b'#' => at_spot(put_32(out, at, a), next(s.place), a as u64, false),
-        b'%' => past(s, put_byte(out, at, (a % 256) as u8), 1),
-        b'?' => past(s, put_known(out, at, a, b), 2),
-        b'~' => past(s, put_64(out, at, a as u64 + b as u64 * 4294967296), 2),
-        _ => put_own(out, s, c),
-    }
-}
-
-// A byte of a form that takes no number of the row.
-fn put_own(out: &mut [u8], s: Spot, c: u8) -> Spot {
-    let at = s.at;
-    match c {
-        b'[' => at_spot(at, 0, s.last, true),
-        b'=' => past(s, put_number(out, at, s.last), 0),
-        b'&' => past(s, put_byte(out, at, (s.last % 256) as u8), 0),
-        _ => past(s, put(out, at, c), 0),
-    }
-}
-
-// The spot past what was written, and past so many numbers of the row.
-fn past(s: Spot, at: usize, numbers: u8) -> Spot {
-    at_spot(at, s.place % 1000 + numbers as usize, s.last, s.inside)
-}
-
-// ---- numbers of the row
-
-// No row has as many as 1,000.
-fn next(place: usize) -> usize {
-    place % 1000 + 1
-}
-
-// A place with one digit more, or with `]` behind it.
-fn further(place: usize, c: u8) -> usize {
-    if c == b']' {
-        return place;
-    }
-    place % 100 * 10 + (c % 16) as usize
-}
-
-// The 32 bits of a number in two's complement.
-fn bits_at(row: &[i32], place: usize) -> u32 {
-    if place < row.len() {
-        signs::bits32(row[place])
-    } else {
-        0
-    }
-}
-
-// ---- values
-
-// A number by its 32 bits.
-fn put_32(out: &mut [u8], at: usize, bits: u32) -> usize {
-    if bits < 0x80000000 {
-        return put_number(out, at, bits as u64);
-    }
-    let digits = put(out, at, b'-');
-    put_number(out, digits, 0x100000000 - bits as u64)
-}
-
-// A number by its 64 bits.
-fn put_64(out: &mut [u8], at: usize, bits: u64) -> usize {
-    if bits < 0x8000000000000000 {
-        return put_number(out, at, bits);
-    }
-    let digits = put(out, at, b'-');
-    put_number(out, digits, u64::MAX - bits + 1)
-}
-
-fn put_known(out: &mut [u8], at: usize, known: u32, bits: u32) -> usize {
-    if known == 0 {
-        return put_all(out, at, b"missing");
-    }
-    put_32(out, at, bits)
-}
-
-// n numbers from this place of the row on, a space before each.
-fn put_list(out: &mut [u8], from: usize, row: &[i32], place: usize, n: u64) -> usize {
-    let mut at = from;
-    let mut i = place;
-    let mut left = n;
-    while 0 < left {
-        if row.len() <= i {
-            return at;
+    // Goes to a place, by a digit of it or the `]` behind it.
+    fn go_on(&mut self, place: usize, c: u8) {
+        if c == b']' {
+            self.place = place;
+            self.read = None;
+        } else {
+            self.read = Some(place % 100 * 10 + usize::from(c % 16));
         }
-        at = put_one(out, at, signs::bits32(row[i]));
-        i += 1;
-        left -= 1;
-    }
-    at
-}
-
-fn put_one(out: &mut [u8], at: usize, bits: u32) -> usize {
-    let number = put(out, at, b' ');
-    put_32(out, number, bits)
-}
-
-// How many eights hold so many.
-fn eighths(n: u64) -> u64 {
-    n / 8 + (n % 8 + 7) / 8
-}
-
-// The first n bytes of the text, `-` for none.
-fn put_string(out: &mut [u8], at: usize, text: &[u8], n: u64) -> usize {
-    if n == 0 {
-        return put(out, at, b'-');
-    }
-    put_bytes(out, at, words::given(text, n))
-}
-
-fn put_bytes(out: &mut [u8], from: usize, s: &[u8]) -> usize {
-    let mut at = from;
-    let mut i = 0;
-    while i < s.len() {
-        at = put_byte(out, at, s[i]);
-        i += 1;
-    }
-    at
-}
-
-fn put_number(out: &mut [u8], at: usize, n: u64) -> usize {
-    let mut digits = itoa::Buffer::new();
-    put_all(out, at, digits.format(n).as_bytes())
-}
-
-// A byte as two hex digits.
-fn put_byte(out: &mut [u8], at: usize, b: u8) -> usize {
-    let low = put(out, at, digit(b / 16));
-    put(out, low, digit(b % 16))
-}
-
-// A number below 16 as an upper-case hex digit.
-fn digit(n: u8) -> u8 {
-    if n < 10 { 48 + n } else { 55 + n % 16 }
-}
-
-// ---- bytes
-
-pub fn put(out: &mut [u8], at: usize, b: u8) -> usize {
-    if at < out.len() {
-        out[at] = b;
-        at + 1
-    } else {
-        at
     }
 }
 
-fn put_all(out: &mut [u8], from: usize, s: &[u8]) -> usize {
-    let mut at = from;
-    let mut i = 0;
-    while i < s.len() {
-        at = put(out, at, s[i]);
-        i += 1;
+impl Answers {
+    pub fn new() -> Answers {
+        Answers {
+            room: [0; 65536],
+            filled: 0,
+        }
     }
-    at
-}
 
-// ---- lines that are no call
+    // Writes them.
+    pub fn flush(&mut self, to: &impl Print) -> io::Result<()> {
+        to.write_all(&self.room[..self.filled])?;
+        self.filled = 0;
+        Ok(())
+    }
 
-pub fn put_fault(out: &mut [u8], at: usize, fault: Fault) -> usize {
-    let said = words::piece(
-        b"? line too long;? unknown word;? too few words;? too many words;? not hex;? not a number;? number out of range;? no job",
-        number_of(fault),
-        b';',
-    );
-    let end = put_all(out, at, said);
-    put(out, end, b'\n')
-}
+    // Writes them where less than half of the room is left for the next one.
+    pub fn spare(&mut self, to: &impl Print) -> io::Result<()> {
+        if HALF <= self.filled {
+            self.flush(to)?;
+        }
+        Ok(())
+    }
 
-fn number_of(fault: Fault) -> usize {
-    match fault {
-        Fault::LineTooLong => 0,
-        Fault::UnknownWord => 1,
-        Fault::TooFewWords => 2,
-        Fault::TooManyWords => 3,
-        Fault::NotHex => 4,
-        Fault::NotANumber => 5,
-        Fault::OutOfRange => 6,
-        Fault::NoJob => 7,
+    // The answer of a line that is no call.
+    pub fn put_fault(&mut self, fault: Fault) {
+        self.put_text(fault.text());
+        self.put(b'\n');
+    }
+
+    // The answer of a call, by the form of its kind. Kind 0 is a refusal.
+    pub fn put_answer(&mut self, answer: &Answer, desk: &Desk) {
+        let mut values = Values {
+            row: &desk.row,
+            text: &desk.text,
+            place: 0,
+            read: None,
+            last: answer.number(),
+        };
+        for c in answer.form().bytes() {
+            self.put_mark(c, &mut values);
+        }
+        self.put(b'\n');
+    }
+
+    // The next byte of a form.
+    fn put_mark(&mut self, c: u8, values: &mut Values) {
+        if let Some(place) = values.read {
+            values.go_on(place, c);
+            return;
+        }
+        match c {
+            b'[' => values.read = Some(0),
+            b'#' => self.put_number(values.next_count()),
+            b'%' => self.put_byte(values.next_number().to_le_bytes()[0]),
+            b'?' => self.put_known(values),
+            b'~' => self.put_number(values.next_long()),
+            b'*' => self.put_list(values, values.last),
+            b'+' => self.put_list(values, values.last.div_ceil(8)),
+            b'=' => self.put_number(values.last),
+            b'&' => self.put_byte(values.last.to_le_bytes()[0]),
+            b'$' => self.put_string(values.text, values.last),
+            _ => self.put(c),
+        }
+    }
+
+    fn put_known(&mut self, values: &mut Values) {
+        let known = values.next_number();
+        let n = values.next_number();
+        if known == 0 {
+            self.put_text("missing");
+        } else {
+            self.put_number(n);
+        }
+    }
+
+    // So many numbers from the next one on, a space before each. They stay to be read.
+    fn put_list(&mut self, values: &Values, n: usize) {
+        for x in values.row.iter().skip(values.place).take(n) {
+            self.put(b' ');
+            self.put_number(*x);
+        }
+    }
+
+    // The first n bytes of the text, `-` for none.
+    fn put_string(&mut self, text: &[u8], n: usize) {
+        if n == 0 {
+            self.put(b'-');
+        }
+        for b in text.iter().take(n) {
+            self.put_byte(*b);
+        }
+    }
+
+    fn put_number(&mut self, n: impl itoa::Integer) {
+        let mut digits = itoa::Buffer::new();
+        self.put_text(digits.format(n));
+    }
+
+    // A byte as two upper-case hex digits.
+    fn put_byte(&mut self, b: u8) {
+        self.put(DIGITS[usize::from(b / 16)]);
+        self.put(DIGITS[usize::from(b % 16)]);
+    }
+
+    fn put_text(&mut self, text: &str) {
+        let left = &mut self.room[self.filled..];
+        let n = text.len().min(left.len());
+        left[..n].copy_from_slice(&text.as_bytes()[..n]);
+        self.filled += n;
+    }
+
+    fn put(&mut self, b: u8) {
+        if self.filled < self.room.len() {
+            self.room[self.filled] = b;
+            self.filled += 1;
+        }
     }
 }

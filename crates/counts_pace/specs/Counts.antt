@@ -1,10 +1,10 @@
 -- The shape that the replies 42 and 44 share (01, PACE; 004, Get Analog Information, Get Status): the bytes d.
 -- Assumes nothing.
-use Rattle.std.specs.Prelude.{Bool, true, false, ◌&&◌, List, ℕ, ◌+◌, ◌*◌, leb, eqb, length, get_or}
+use Rattle.std.specs.Prelude.{Bool, true, false, ◌&&◌, List, Result, Ok, Err, ℕ, ◌+◌, ◌*◌, leb, eqb, length, get_or}
 use Rattle.laws.specs.Choice.{pick}
-use Rattle.refusals.specs.Refused.{refused_with, shape}
+use Rattle.refusals.specs.declared.Refusal.{Refusal}
+use Rattle.refusals.specs.declared.Refusal.TheVariants as refusal
 use Rattle.counts_pace.specs.declared.Counts.{Counts}
-use Rattle.counts_pace.specs.declared.Counts.TheVariants.{Are, Refused}
 
 -- how many bytes n values take
 abbrev pub space_of : Bool → ℕ → ℕ
@@ -28,5 +28,5 @@ shaped wide rest address d =
     && leb (temperatures_in wide d) 8
     && eqb (length d) (space_of wide (cells_in d) + space_of wide (temperatures_in wide d) + 4 + rest)
 
-unfoldable pub counts_of : Bool → ℕ → ℕ → List ℕ → Counts
-counts_of wide rest address d = pick (shaped wide rest address d) (Are (cells_in d) (temperatures_in wide d)) (Refused (refused_with shape))
+unfoldable pub counts_of : Bool → ℕ → ℕ → List ℕ → Result Counts Refusal
+counts_of wide rest address d = pick (shaped wide rest address d) (Ok (record { cells = cells_in d; temperatures = temperatures_in wide d })) (Err refusal.Shape)

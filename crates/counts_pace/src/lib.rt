@@ -9,58 +9,46 @@ ghost use Rattle.counts_pace.specs.Counts.{space_of, shaped, counts_of};
 
 use characters_pace::byte_of;
 use faults_pace::fault_of;
-use refusals::{Refusal, refuse};
+use refusals::Refusal;
 
 // How many cells (1 to 16) and temperatures (0 to 8) a reply has.
-#[derive(Drop)]
-pub enum Counts {
-    Are { cells: u8, temperatures: u8 },
-    // Why there are none.
-    Refused(Refusal),
+#[derive(Clone, Copy, Debug, PartialEq, Eq)]
+pub struct Counts {
+    pub cells: u8,
+    pub temperatures: u8,
 }
 
 // The counts in a reply whose values are two bytes wide or one, with so many bytes behind them.
-pub fn counts_of(wide: bool, rest: u8, address: u8, info: &[u8]) -> Counts
-    ensures { result ≡ checked_info Counts.Refused (counts_of wide rest address) info.now }
+#[tactic(auto, unfolding(crate::specs::Counts::counts_of, characters_pace::specs::Characters::checked_info))]
+pub fn counts_of(wide: bool, rest: u8, address: u8, info: &[u8]) -> Result<Counts, Refusal>
+    ensures { result ≡ checked_info (counts_of wide rest address) info.now }
 {
-    let fault = fault_of(info);
-    if fault != 0 {
-        return Counts::Refused(refuse(fault));
-    }
+    fault_of(info)?;
     if !has_shape(wide, rest, address, info) {
-        return Counts::Refused(refuse(refusals::SHAPE));
+        return Err(Refusal::Shape);
     }
     let cells = byte_of(info, 2);
-    Counts::Are {
+    Ok(Counts {
         cells,
         temperatures: byte_of(info, space(wide, cells) + 3),
-    }
+    })
 }
 
 // Whether INFO has 00, the address, counts within their limits, and the length that these require.
+#[tactic(auto, using(characters_pace::proofs::Carried::bytes_length), unfolding(crate::specs::Counts::shaped))]
 fn has_shape(wide: bool, rest: u8, address: u8, info: &[u8]) -> bool
     ensures { result ≡ shaped wide rest address (bytes_in info.now) }
 {
-    if byte_of(info, 0) != 0 {
-        return false;
-    }
-    if byte_of(info, 1) != address {
-        return false;
-    }
     let cells = byte_of(info, 2);
-    if cells < 1 {
-        return false;
-    }
-    if 16 < cells {
-        return false;
-    }
     let c = space(wide, cells);
     let temperatures = byte_of(info, c + 3);
-    if 8 < temperatures {
-        return false;
-    }
     let t = space(wide, temperatures);
-    info.len() / 2 == c + t + 4 + rest as usize
+    byte_of(info, 0) == 0
+        && byte_of(info, 1) == address
+        && 1 <= cells
+        && cells <= 16
+        && temperatures <= 8
+        && info.len() / 2 == c + t + 4 + rest as usize
 }
 
 // How many bytes n values take.

@@ -4,38 +4,26 @@
 ghost use Rattle.std.specs.Prelude.{◌≡◌, ◌%◌};
 ghost use Rattle.digits.specs.Hexes.{digit_of, byte_of, char_of, chars_of};
 
-// What characters stand for.
-#[derive(Drop)]
-pub enum Hex {
-    Value(u8),
-    // Some character is none of 0-9 and A-F.
-    Other,
-}
-
-// The number of one hex digit.
+// The number of one hex digit, if the character is one of 0-9 and A-F.
 #[tactic(auto, unfolding(crate::specs::Hexes::digit_of))]
-pub fn read_digit(c: u8) -> Hex
+pub fn read_digit(c: u8) -> Option<u8>
     ensures { result ≡ digit_of c }
 {
     match c {
-        48..=57 => Hex::Value(c - 48),
-        65..=70 => Hex::Value(c - 55),
-        _ => Hex::Other,
+        48..=57 => Some(c - 48),
+        65..=70 => Some(c - 55),
+        _ => None,
     }
 }
 
-// The byte of two hex digits.
+// The byte of two hex digits, if both characters are.
 #[tactic(auto, using(crate::proofs::Characters::digit_small))]
-pub fn read_byte(high: u8, low: u8) -> Hex
+pub fn read_byte(high: u8, low: u8) -> Option<u8>
     ensures { result ≡ byte_of high low }
 {
-    let Hex::Value(h) = read_digit(high) else {
-        return Hex::Other;
-    };
-    let Hex::Value(l) = read_digit(low) else {
-        return Hex::Other;
-    };
-    Hex::Value(h * 16 + l)
+    let h = read_digit(high)?;
+    let l = read_digit(low)?;
+    Some(h * 16 + l)
 }
 
 // The two hex digits of a byte.

@@ -1,6 +1,7 @@
 -- Values placed in a row one part after the other: a part placed where the front ended makes the front longer (`next_part`).
 -- Assumes nothing.
 use mathlib.Core.Path.{◌≡◌, refl, sym, ap, ap₂, ◌∙◌}
+use mathlib.Core.Bool.{Bool, true, false}
 use mathlib.Core.List.{List, [], ◌∷◌, ◌++◌, append_assoc, append-nil}
 use Prim.Native.Nat.{ℕ, ◌+◌, ◌≤◌, ◌<◌}
 use native.Mathlib.Omega.{arith}
@@ -9,8 +10,11 @@ use lib.IntN.{ℤ}
 use lib.Dec.{leb}
 use lib.ListN.{length, drop, length-append, length-drop}
 use lib.Seq.{drop-append-add, take_at, drop-drop}
-use Rattle.laws.proofs.Ladders.{past, into}
-use Rattle.refusals.specs.Refused.{room}
+use Rattle.laws.specs.Choice.{pick}
+use Rattle.std.specs.Prelude.{Result, Ok, Err}
+use Rattle.refusals.specs.declared.Refusal.{Refusal}
+use Rattle.refusals.specs.declared.Refusal.TheVariants as refusal
+use Rattle.refusals.specs.Numbers.{number_of}
 use Rattle.exports_parts.specs.Parts.{fit_code, placed}
 use Rattle.exports_answers.specs.Told.{coded_as, room_code, over, behind, joined}
 
@@ -34,7 +38,7 @@ module _ (front values old : List ℤ) (at n : ℕ) (reach : length front ≡ at
 -- ---- a whole answer
 
 -- too little room: 11, and all as it was
-pub no_room : {A : Type 0} (kind : ℕ) (values old : List A) → length old < length values → (room ≡ room_code kind (length values) (length old)) × (old ≡ over values old)
+pub no_room : {A : Type 0} (kind : ℕ) (values old : List A) → length old < length values → (number_of refusal.Room ≡ room_code kind (length values) (length old)) × (old ≡ over values old)
 unfolding over
 no_room kind values old h = simp (lt-ltb _ _ h) (refl, refl)
 
@@ -57,22 +61,32 @@ unfolding placed
 none_placed values old h = simp (lt-leb _ _ h)
 
 -- numbers at the front of a row, by what their writer answers
-module _ (kind : ℕ) (values old row : List ℤ) (answer : ℕ) (told : answer ≡ fit_code 0 (length values) (length old))
-    (filled : row ≡ placed 0 values old) where
-  pub numbers_refused : (answer ≡ 0 → ⊥) → (answer ≡ room_code kind (length values) (length old)) × (row ≡ over values old)
+module _ (kind : ℕ) (values old row : List ℤ) (filled : row ≡ placed 0 values old) where
+  pub numbers_refused : (why : Refusal) → Err why ≡ fit_code 0 (length values) (length old)
+      → (number_of why ≡ room_code kind (length values) (length old)) × (row ≡ over values old)
   unfolding fit_code
-  numbers_refused h =
-      let test = past (leb (0 + length values) (length old)) 0 room answer h told in
-      let short : length old < 0 + length values = leb-false (0 + length values) (length old) test.0 in
-      let none = no_room kind values old (omega arith) in
-      (test.1 ∙ none.0, filled ∙ none_placed values old short ∙ none.1)
+  numbers_refused why told = go (leb (0 + length values) (length old)) refl told
+    where
+      go : (fits : Bool) → leb (0 + length values) (length old) ≡ fits → ◌≡◌ {A = Result (Unit {0}) Refusal} (Err why) (pick fits (Ok tt) (Err refusal.Room))
+          → (number_of why ≡ room_code kind (length values) (length old)) × (row ≡ over values old)
+      go true e k = absurd cc
+      go false e k =
+          let short : length old < 0 + length values = leb-false (0 + length values) (length old) e in
+          let none = no_room kind values old (omega arith) in
+          let room : why ≡ refusal.Room = cc in
+          (ap number_of room ∙ none.0, filled ∙ none_placed values old short ∙ none.1)
 
-  pub numbers_told : answer ≡ 0 → (coded_as kind (length values) ≡ room_code kind (length values) (length old)) × (row ≡ over values old)
+  pub numbers_told : Ok tt ≡ fit_code 0 (length values) (length old)
+      → (coded_as kind (length values) ≡ room_code kind (length values) (length old)) × (row ≡ over values old)
   unfolding fit_code
-  numbers_told h =
-      let test = into (leb (0 + length values) (length old)) 0 room answer (λ e. omega (arith, h, e)) told in
-      let fits : length values ≤ length old = omega (arith, leb-true (0 + length values) (length old) test.0) in
-      (kind_told kind values old fits, filled ∙ front_placed values old fits)
+  numbers_told told = go (leb (0 + length values) (length old)) refl told
+    where
+      go : (holds : Bool) → leb (0 + length values) (length old) ≡ holds → ◌≡◌ {A = Result (Unit {0}) Refusal} (Ok tt) (pick holds (Ok tt) (Err refusal.Room))
+          → (coded_as kind (length values) ≡ room_code kind (length values) (length old)) × (row ≡ over values old)
+      go false e k = absurd cc
+      go true e k =
+          let fits : length values ≤ length old = omega (arith, leb-true (0 + length values) (length old) e) in
+          (kind_told kind values old fits, filled ∙ front_placed values old fits)
 
 -- ---- a whole answer in parts
 
@@ -119,5 +133,5 @@ module _ (kind : ℕ) (ps : List (List ℤ)) (sizes : List ℕ) (s : Sizes ps si
         behind_front ps sizes s [] row 0 refl (omega arith) ∙ ap (λ (k : ℕ). joined ps ++ drop k row) e ∙ values_over kind (joined ps) row fits,
       )
 
-  pub parts_untold : length row < total sizes → (room ≡ room_code kind (length (joined ps)) (length row)) × (row ≡ over (joined ps) row)
+  pub parts_untold : length row < total sizes → (number_of refusal.Room ≡ room_code kind (length (joined ps)) (length row)) × (row ≡ over (joined ps) row)
   parts_untold h = no_room kind (joined ps) row (omega (arith, joined_size ps sizes s))

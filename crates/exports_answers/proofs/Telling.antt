@@ -6,6 +6,7 @@ use Prim.Native.Nat.{ℕ}
 use lib.IntN.{ℤ}
 use lib.ListN.{length}
 use Rattle.refusals.specs.declared.Refusal.{Refusal}
+use Rattle.refusals.specs.Numbers.{number_of}
 use Rattle.exports_answers.specs.Told.{Told, numbers, letters, plain, refused, coded_as, code_of, room_code, row_after, text_after, over}
 
 -- an answer where text is lent too: code, row and text at once
@@ -25,7 +26,7 @@ module _ (t : Told) (row : List ℤ) (text : List ℕ) where
   pub tells_plain : {kind n m : ℕ} → plain kind n ≡ t → m ≡ coded_as kind n → Tells t m row row text text
   tells_plain p e = rw (← p) (e, (refl, refl))
 
-  pub tells_refused : {r : Refusal} → refused r ≡ t → Tells t r.number row row text text
+  pub tells_refused : {r : Refusal} → refused r ≡ t → Tells t (number_of r) row row text text
   tells_refused p = rw (← p) (refl, (refl, refl))
 
 module _ (t : Told) (row : List ℤ) (bytes : ℕ) where
@@ -34,5 +35,5 @@ module _ (t : Told) (row : List ℤ) (bytes : ℕ) where
       → (n ≡ code_of t (length row) bytes) × (after ≡ row_after t row)
   told_numbers p e a f = rw (← p, ← e) (a, f)
 
-  pub told_refused : {r : Refusal} → refused r ≡ t → (r.number ≡ code_of t (length row) bytes) × (row ≡ row_after t row)
+  pub told_refused : {r : Refusal} → refused r ≡ t → ((number_of r) ≡ code_of t (length row) bytes) × (row ≡ row_after t row)
   told_refused p = rw (← p) (refl, refl)

@@ -4,7 +4,8 @@
 use Rattle.std.specs.Prelude.{ℕ, ◌+◌, ◌*◌, ◌%◌, List, [], ◌∷◌, ◌++◌, ltb, ℤ, length, drop}
 use Rattle.laws.specs.Choice.{pick}
 use Rattle.refusals.specs.declared.Refusal.{Refusal}
-use Rattle.refusals.specs.Refused.{room}
+use Rattle.refusals.specs.declared.Refusal.TheVariants as refusal
+use Rattle.refusals.specs.Numbers.{number_of}
 use Rattle.exports_parts.specs.Parts.{placed}
 
 pub data Told : Type 0 where
@@ -23,14 +24,14 @@ coded_as kind n = kind * 4294967296 + n % 4294967296
 
 -- n values where there are so many places: 11 where they are too few
 abbrev pub room_code : ℕ → ℕ → ℕ → ℕ
-room_code kind n places = pick (ltb places n) room (coded_as kind n)
+room_code kind n places = pick (ltb places n) (number_of refusal.Room) (coded_as kind n)
 
 -- with so many places in the row and so many for text
 abbrev pub code_of : Told → ℕ → ℕ → ℕ
 code_of (numbers kind zs) places bytes = room_code kind (length zs) places
 code_of (letters kind t) places bytes = room_code kind (length t) bytes
 code_of (plain kind n) places bytes = coded_as kind n
-code_of (refused r) places bytes = r.number
+code_of (refused why) places bytes = number_of why
 
 -- ---- what is lent
 

@@ -3,11 +3,12 @@
 #![tactic(auto)]
 
 ghost use Rattle.std.specs.Prelude.{◌≡◌, length};
+ghost use Rattle.refusals.specs.Numbers.{number_of};
 ghost use Rattle.exports_answers.specs.Told.{coded_as, room_code, over};
 ghost use Rattle.exports_answers.specs.Writing.{written_code};
 
-use exports_parts::put_i32;
-use refusals::Written;
+use exports_parts::put;
+use refusals::Refusal;
 
 // A kind of answer and its number in one: the number below 2 to the 32, the kind above it.
 pub fn coded(kind: u8, n: usize) -> u64
@@ -17,13 +18,20 @@ pub fn coded(kind: u8, n: usize) -> u64
 }
 
 // What a writer of requests answered, as one number.
-pub fn written_number(w: Written) -> u64
-    ensures { result ≡ written_code w }
+pub fn written_number(written: Result<usize, Refusal>) -> u64
+    ensures { result ≡ written_code written }
 {
-    match w {
-        Written::Frame(n) => coded(1, n),
-        Written::Refused(r) => r.number as u64,
+    match written {
+        Ok(n) => coded(1, n),
+        Err(why) => told(why),
     }
+}
+
+// A refusal, as its number.
+pub fn told(why: Refusal) -> u64
+    ensures { result ≡ number_of why }
+{
+    u64::from(why.number())
 }
 
 // An answer of this kind whose values are these numbers: they go to the front of the row.
@@ -31,11 +39,10 @@ pub fn put_numbers(kind: u8, numbers: &[i32], row: &mut [i32]) -> u64
     ensures answer { result ≡ room_code kind (length numbers.now) (length row.old) }
     ensures filled { row.new ≡ over numbers.now row.old }
 {
-    let refused = put_i32(numbers, 0, row);
-    if refused != 0 {
-        return refused as u64;
+    match put(numbers, 0, row) {
+        Ok(()) => coded(kind, numbers.len()),
+        Err(why) => told(why),
     }
-    coded(kind, numbers.len())
 }
 
 // An answer of this kind whose text this is: it goes to the front of the bytes.
@@ -44,7 +51,7 @@ pub fn put_text(kind: u8, text: &[u8], out: &mut [u8]) -> u64
     ensures copied { out.new ≡ over text.now out.old }
 {
     if out.len() < text.len() {
-        return refusals::ROOM as u64;
+        return told(Refusal::Room);
     }
     out[..text.len()].copy_from_slice(text);
     coded(kind, text.len())

@@ -1,26 +1,23 @@
 -- A record of the 58-byte monitor as a row of 32 numbers, in the order of the bytes (001).
 -- Assumes nothing.
-use Rattle.std.specs.Prelude.{ℕ, ◌<◌, List, [], ◌∷◌, ℤ, pos}
-use Rattle.parts_old58.specs.declared.Current.{Current}
-use Rattle.parts_old58.specs.declared.Current.TheVariants.{Milliamps, Missing}
+use Rattle.std.specs.Prelude.{ℕ, ◌<◌, List, [], ◌∷◌, ℤ, pos, Option, Some, None, Result, Ok, Err}
+use Rattle.refusals.specs.declared.Refusal.{Refusal}
 use Rattle.parts_old58.specs.declared.Pack.{Pack}
 use Rattle.parts_old58.specs.declared.Extremes.{Extremes}
 use Rattle.parts_old58.specs.declared.Cell.{Cell}
 use Rattle.parts_old58.specs.declared.Energy.{Energy}
 use Rattle.parts_old58.specs.declared.Setup.{Setup}
 use Rattle.old58.specs.declared.Record.{Record}
-use Rattle.old58.specs.declared.Reading.{Reading}
-use Rattle.old58.specs.declared.Reading.TheVariants.{Whole, Refused}
 use Rattle.exports_answers.specs.Told.{Told, numbers, refused, joined}
 
 -- whether a current is there (1) or missing (0), and the current, 0 where it is missing
-abbrev pub known : Current → ℤ
-known (Milliamps z) = pos 1
-known Missing = pos 0
+abbrev pub known : Option ℤ → ℤ
+known (Some z) = pos 1
+known None = pos 0
 
-abbrev pub milliamps : Current → ℤ
-milliamps (Milliamps z) = z
-milliamps Missing = pos 0
+abbrev pub milliamps : Option ℤ → ℤ
+milliamps (Some z) = z
+milliamps None = pos 0
 
 -- places 0 to 6
 abbrev pub pack_numbers : Pack → List ℤ
@@ -68,6 +65,6 @@ abbrev pub all_numbers : Record → List ℤ
 all_numbers r = joined (parts_of r)
 
 -- 1 a record
-abbrev pub told_of : Reading → Told
-told_of (Whole r) = numbers 1 (all_numbers r)
-told_of (Refused why) = refused why
+abbrev pub told_of : Result Record Refusal → Told
+told_of (Ok r) = numbers 1 (all_numbers r)
+told_of (Err why) = refused why

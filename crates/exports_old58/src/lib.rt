@@ -6,15 +6,15 @@ ghost use Rattle.std.specs.Prelude.{◌≡◌, ◌<◌, pos, length};
 ghost use Rattle.old58.specs.Read.{reading_of};
 ghost use Rattle.old58.specs.Record.{record_of};
 ghost use Rattle.exports_answers.specs.Told.{code_of, row_after, room_code, over};
-ghost use Rattle.exports_old58.specs.Records.{known, milliamps, pack_numbers, extremes_numbers, cell_numbers, energy_numbers, setup_numbers, SmallEnergy, all_numbers, told_of};
+ghost use Rattle.exports_old58.specs.Records.{known, pack_numbers, extremes_numbers, cell_numbers, energy_numbers, setup_numbers, SmallEnergy, all_numbers, told_of};
 
-use exports_answers::coded;
-use exports_parts::put_i32;
-use old58::{Judged, judge};
+use exports_answers::{coded, told};
+use exports_parts::put;
+use old58::judge;
 use parts_old58::{
-    Cell, Current, Energy, Extremes, Pack, Setup, cell_of, energy_of, extremes_of, pack_of,
-    setup_of,
+    Cell, Energy, Extremes, Pack, Setup, cell_of, energy_of, extremes_of, pack_of, setup_of,
 };
+use refusals::Refusal;
 
 // How many numbers a record has.
 const RECORD: usize = 32;
@@ -26,32 +26,31 @@ pub extern "C" fn tracksaffron_old_read(s: &[u8], row: &mut [i32]) -> u64
     ensures answer { result ≡ code_of (told_of (reading_of s.now)) (length row.old) 0 }
     ensures filled { row.new ≡ row_after (told_of (reading_of s.now)) row.old }
 {
-    let judged = judge(s);
-    match judged {
-        Judged::Sound => put_record(s, row),
-        Judged::Refused(why) => why.number as u64,
+    match judge(s) {
+        Ok(()) => put_record(s, row),
+        Err(why) => told(why),
     }
 }
 
 // The record in the bytes, each part read and then written: a whole record would not stay in the registers.
-#[tactic(auto, using(crate::proofs::Small::pack_small, crate::proofs::Small::extremes_small, crate::proofs::Small::cell_small, crate::proofs::Small::energy_small))]
+#[tactic(auto, using(crate::proofs::Small::pack_small, crate::proofs::Small::extremes_small, crate::proofs::Small::cell_small, crate::proofs::Small::energy_small), unfolding(exports_parts::specs::Parts::fit_code))]
 fn put_record(s: &[u8], row: &mut [i32]) -> u64
     ensures answer { result ≡ room_code 1 (length (all_numbers (record_of s.now))) (length row.old) }
     ensures filled { row.new ≡ over (all_numbers (record_of s.now)) row.old }
 {
     if row.len() < RECORD {
-        return refusals::ROOM as u64;
+        return told(Refusal::Room);
     }
     let pack = pack_numbers(pack_of(s));
-    put_i32(&pack, 0, row);
+    put(&pack, 0, row).unwrap();
     let extremes = extremes_numbers(extremes_of(s));
-    put_i32(&extremes, 7, row);
+    put(&extremes, 7, row).unwrap();
     let cell = cell_numbers(cell_of(s));
-    put_i32(&cell, 15, row);
+    put(&cell, 15, row).unwrap();
     let energy = energy_numbers(energy_of(s));
-    put_i32(&energy, 20, row);
+    put(&energy, 20, row).unwrap();
     let setup = setup_numbers(setup_of(s));
-    put_i32(&setup, 26, row);
+    put(&setup, 26, row).unwrap();
     coded(1, RECORD)
 }
 
@@ -65,11 +64,11 @@ fn pack_numbers(p: Pack) -> [i32; 7]
     [
         word(p.total_mv),
         is_known(first),
-        milliamps_of(first),
+        first.unwrap_or(0),
         is_known(second),
-        milliamps_of(second),
+        second.unwrap_or(0),
         is_known(third),
-        milliamps_of(third),
+        third.unwrap_or(0),
     ]
 }
 
@@ -82,23 +81,10 @@ fn word(n: u32) -> i32
 }
 
 // 1 where the current is known, 0 where it is missing.
-fn is_known(c: Current) -> i32
+fn is_known(c: Option<i32>) -> i32
     ensures { result ≡ known c }
 {
-    match c {
-        Current::Milliamps(_) => 1,
-        Current::Missing => 0,
-    }
-}
-
-// The current, 0 where there is none.
-fn milliamps_of(c: Current) -> i32
-    ensures { result ≡ milliamps c }
-{
-    match c {
-        Current::Milliamps(ma) => ma,
-        Current::Missing => 0,
-    }
+    i32::from(c.is_some())
 }
 
 fn extremes_numbers(e: Extremes) -> [i32; 8]

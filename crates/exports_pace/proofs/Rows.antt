@@ -1,18 +1,16 @@
 -- A record with its lists told in a row, part by part; and a setting's values told where text is lent too.
 -- Assumes nothing.
-use mathlib.Core.Path.{◌≡◌, refl, ap, ◌∙◌}
+use mathlib.Core.Path.{◌≡◌, ap, ◌∙◌}
 use mathlib.Core.List.{List, [], ◌∷◌, map}
 use Prim.Native.Nat.{ℕ, ◌+◌, ◌≤◌, ◌<◌}
 use lib.IntN.{ℤ, pos}
 use lib.ListN.{length, length-map}
-use Rattle.refusals.specs.Refused.{room}
-use Rattle.layouts_pace.specs.declared.Values.{Values}
-use Rattle.layouts_pace.specs.declared.Values.TheVariants.{CellOvervoltage, SlowDischarge}
+use Rattle.refusals.specs.declared.Refusal.TheVariants as refusal
+use Rattle.refusals.specs.Numbers.{number_of}
 use Rattle.exports_parts.specs.Parts.{placed}
-use Rattle.exports_answers.specs.Told.{coded_as, room_code, code_of, over, row_after, joined}
+use Rattle.exports_answers.specs.Told.{coded_as, room_code, over, joined}
 use Rattle.exports_answers.proofs.Placing.{total, Sizes, parts_told, parts_untold}
-use Rattle.exports_answers.proofs.Telling.{Tells}
-use Rattle.exports_pace.specs.Replies.{parts, values_told}
+use Rattle.exports_pace.specs.Replies.{parts}
 
 -- a record of n numbers with its lists
 abbrev pub sizes : ℕ → List ℕ
@@ -28,7 +26,7 @@ module _ (kind n : ℕ) (values : List ℤ) (cells : List ℕ) (temperatures row
     sized : Sizes (parts values (map pos cells) temperatures) (sizes n)
     sized = (v, (length-map cells pos ∙ c, (t, tt)))
 
-    pub record_untold : length row < total (sizes n) → Recorded room row
+    pub record_untold : length row < total (sizes n) → Recorded (number_of refusal.Room) row
     record_untold h = parts_untold kind (parts values (map pos cells) temperatures) (sizes n) sized row h
 
     -- its parts were placed one after the other
@@ -37,8 +35,3 @@ module _ (kind n : ℕ) (values : List ℤ) (cells : List ℕ) (temperatures row
     record_told h e f p q r =
         let told = parts_told kind (parts values (map pos cells) temperatures) (sizes n) sized row h in
         (e ∙ told.0, r ∙ ap (placed (0 + n + 16) temperatures) (q ∙ ap (placed (0 + n) (map pos cells)) (p ∙ ap (λ l. placed 0 l row) f)) ∙ told.1)
-
-pub tells_values : (v : Values) (row : List ℤ) (text : List ℕ) {n : ℕ} {after : List ℤ} → n ≡ code_of (values_told v) (length row) 0 → after ≡ row_after (values_told v) row
-    → Tells (values_told v) n row after text text
-tells_values (CellOvervoltage alarm protect release delay) row text a f = (a, (f, refl))
-tells_values (SlowDischarge alarm protect delay) row text a f = (a, (f, refl))

@@ -1,13 +1,13 @@
 -- What a PACE reply is to a language that shares no enum: the kind of each answer, its values in the order of their places in the row, its text.
 -- Assumes nothing.
-use Rattle.std.specs.Prelude.{ℕ, List, [], ◌∷◌, map, ℤ, pos, take}
+use Rattle.std.specs.Prelude.{ℕ, Result, Ok, Err, List, [], ◌∷◌, map, ℤ, pos, take}
 use Rattle.analog_pace.specs.declared.Analog.{Analog}
 use Rattle.warnings_pace.specs.declared.Warnings.{Warnings}
 use Rattle.layouts_pace.specs.declared.Values.{Values}
 use Rattle.layouts_pace.specs.declared.Values.TheVariants.{CellOvervoltage, SlowDischarge}
 use Rattle.payloads_pace.specs.declared.Answer.{Answer}
 use Rattle.payloads_pace.specs.declared.Answer.TheVariants as is
-use Rattle.payloads_pace.specs.declared.Reply.{Reply}
+use Rattle.refusals.specs.declared.Refusal.{Refusal}
 use Rattle.exports_answers.specs.Told.{Told, numbers, letters, plain, refused, joined}
 
 -- ---- a record with its lists
@@ -49,15 +49,15 @@ values_told (CellOvervoltage alarm protect release delay) = numbers 5 (pos alarm
 values_told (SlowDischarge alarm protect delay) = numbers 6 (pos alarm ∷ pos protect ∷ pos delay ∷ [])
 
 -- 1 analog information, 2 warnings, 3 hardware (20 letters), 4 serial number (20 or 40 letters), 7 accepted, 8 the device's failure
-abbrev pub told_as : Answer → Reply → Told
-told_as (is.Analog a) r = numbers 1 (analog_all a r.cells r.temperatures)
-told_as (is.Warnings w) r = numbers 2 (warning_all w r.cell_warnings r.temperature_warnings)
-told_as is.Hardware r = letters 3 (take 20 r.text)
-told_as (is.Serial n) r = letters 4 (take n r.text)
-told_as (is.Setting v) r = values_told v
-told_as is.Accepted r = plain 7 0
-told_as (is.DeviceFailure code) r = plain 8 code
-told_as (is.Refused why) r = refused why
+abbrev pub told_as : Answer → Told
+told_as (is.Analog r) = numbers 1 (analog_all r.numbers r.cells r.temperatures)
+told_as (is.Warnings r) = numbers 2 (warning_all r.status r.cells r.temperatures)
+told_as (is.Hardware t) = letters 3 t
+told_as (is.Serial t n) = letters 4 (take n t)
+told_as (is.Setting v) = values_told v
+told_as is.Accepted = plain 7 0
+told_as (is.DeviceFailure code) = plain 8 code
 
-abbrev pub told_of : Reply → Told
-told_of r = told_as r.answer r
+abbrev pub told_of : Result Answer Refusal → Told
+told_of (Ok answer) = told_as answer
+told_of (Err why) = refused why

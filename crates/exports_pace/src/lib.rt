@@ -5,14 +5,15 @@
 ghost use Rattle.std.specs.Prelude.{◌≡◌, length, take};
 ghost use Rattle.records_pace.specs.Reply.{reply_of};
 ghost use Rattle.exports_answers.specs.Told.{code_of, row_after, text_after, room_code, over};
-ghost use Rattle.exports_pace.specs.Replies.{analog_numbers, analog_all, warning_numbers, warning_all, values_told, told_of};
+ghost use Rattle.exports_pace.specs.Replies.{analog_numbers, analog_all, warning_numbers, warning_all, values_told, told_as, told_of};
 
 use analog_pace::Analog;
-use exports_answers::{coded, put_numbers, put_text};
-use exports_parts::{put_i32, put_u8, put_u16};
+use exports_answers::{coded, put_numbers, put_text, told};
+use exports_parts::put;
 use layouts_pace::Values;
-use payloads_pace::{Answer, Reply};
+use payloads_pace::Answer;
 use records_pace::read_reply;
+use refusals::Refusal;
 use warnings_pace::Warnings;
 
 // How many numbers the analog information and the warnings have, with their lists.
@@ -33,29 +34,25 @@ pub extern "C" fn tracksaffron_pace_read(
     ensures filled { row.new ≡ row_after (told_of (reply_of address asked s.now)) row.old }
     ensures copied { text.new ≡ text_after (told_of (reply_of address asked s.now)) text.old }
 {
-    tell(read_reply(address, asked, s), row, text)
+    match read_reply(address, asked, s) {
+        Ok(answer) => tell(answer, row, text),
+        Err(why) => told(why),
+    }
 }
 
-fn tell(r: Reply, row: &mut [i32], text: &mut [u8]) -> u64
-    ensures answer { result ≡ code_of (told_of r) (length row.old) (length text.old) }
-    ensures filled { row.new ≡ row_after (told_of r) row.old }
-    ensures copied { text.new ≡ text_after (told_of r) text.old }
+fn tell(answer: Answer, row: &mut [i32], text: &mut [u8]) -> u64
+    ensures answer { result ≡ code_of (told_as answer) (length row.old) (length text.old) }
+    ensures filled { row.new ≡ row_after (told_as answer) row.old }
+    ensures copied { text.new ≡ text_after (told_as answer) text.old }
 {
-    let answer = r.answer;
-    let cells = r.cells;
-    let temperatures = r.temperatures;
-    let cell_warnings = r.cell_warnings;
-    let temperature_warnings = r.temperature_warnings;
-    let letters = r.text;
     match answer {
-        Answer::Analog(a) => put_analog(a, cells, temperatures, row),
-        Answer::Warnings(w) => put_warnings(w, cell_warnings, temperature_warnings, row),
-        Answer::Hardware => put_letters(3, 20, letters, text),
-        Answer::Serial(n) => put_letters(4, n, letters, text),
+        Answer::Analog(reading) => put_analog(reading, row),
+        Answer::Warnings(reading) => put_warnings(reading, row),
+        Answer::Hardware(letters) => put_text(3, &letters, text),
+        Answer::Serial { text: letters, len } => put_letters(4, len, letters, text),
         Answer::Setting(v) => put_values(v, row),
         Answer::Accepted => coded(7, 0),
         Answer::DeviceFailure(code) => coded(8, code as usize),
-        Answer::Refused(why) => why.number as u64,
     }
 }
 
@@ -102,17 +99,16 @@ fn put_values(v: Values, row: &mut [i32]) -> u64
     }
 }
 
-fn put_analog(a: Analog, cells: [u16; 16], temperatures: [i32; 8], row: &mut [i32]) -> u64
-    ensures answer { result ≡ room_code 1 (length (analog_all a cells temperatures)) (length row.old) }
-    ensures filled { row.new ≡ over (analog_all a cells temperatures) row.old }
+fn put_analog(r: analog_pace::Reading, row: &mut [i32]) -> u64
+    ensures answer { result ≡ room_code 1 (length (analog_all r.numbers r.cells r.temperatures)) (length row.old) }
+    ensures filled { row.new ≡ over (analog_all r.numbers r.cells r.temperatures) row.old }
 {
     if row.len() < ANALOG {
-        return refusals::ROOM as u64;
+        return told(Refusal::Room);
     }
-    let numbers = analog_numbers(a);
-    put_i32(&numbers, 0, row);
-    put_u16(&cells, 8, row);
-    put_i32(&temperatures, 24, row);
+    let _ = put(&analog_numbers(r.numbers), 0, row);
+    let _ = put(&r.cells, 8, row);
+    let _ = put(&r.temperatures, 24, row);
     coded(1, ANALOG)
 }
 
@@ -131,17 +127,16 @@ fn analog_numbers(a: Analog) -> [i32; 8]
     ]
 }
 
-fn put_warnings(w: Warnings, cells: [u8; 16], temperatures: [u8; 8], row: &mut [i32]) -> u64
-    ensures answer { result ≡ room_code 2 (length (warning_all w cells temperatures)) (length row.old) }
-    ensures filled { row.new ≡ over (warning_all w cells temperatures) row.old }
+fn put_warnings(r: warnings_pace::Reading, row: &mut [i32]) -> u64
+    ensures answer { result ≡ room_code 2 (length (warning_all r.status r.cells r.temperatures)) (length row.old) }
+    ensures filled { row.new ≡ over (warning_all r.status r.cells r.temperatures) row.old }
 {
     if row.len() < WARNINGS {
-        return refusals::ROOM as u64;
+        return told(Refusal::Room);
     }
-    let numbers = warning_numbers(w);
-    put_i32(&numbers, 0, row);
-    put_u8(&cells, 14, row);
-    put_u8(&temperatures, 30, row);
+    let _ = put(&warning_numbers(r.status), 0, row);
+    let _ = put(&r.cells, 14, row);
+    let _ = put(&r.temperatures, 30, row);
     coded(2, WARNINGS)
 }
 

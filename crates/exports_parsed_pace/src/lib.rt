@@ -7,10 +7,10 @@ ghost use Rattle.exports_answers.specs.Told.{code_of, row_after};
 ghost use Rattle.requests_read_pace.specs.Parsed.{parsed_of};
 ghost use Rattle.exports_parsed_pace.specs.Requests.{set_told, request_told, told_request};
 
-use exports_answers::put_numbers;
+use exports_answers::{put_numbers, told};
 use layouts_pace::Values;
 use requests_pace::Request;
-use requests_read_pace::{Parsed, read_request};
+use requests_read_pace::read_request;
 
 // Reads a PACE request; its values go to the front of the row.
 #[unsafe(no_mangle)]
@@ -18,10 +18,9 @@ pub extern "C" fn tracksaffron_pace_parse(s: &[u8], row: &mut [i32]) -> u64
     ensures answer { result ≡ code_of (told_request (parsed_of s.now)) (length row.old) 0 }
     ensures filled { row.new ≡ row_after (told_request (parsed_of s.now)) row.old }
 {
-    let parsed = read_request(s);
-    match parsed {
-        Parsed::Is(q) => put_request(q, row),
-        Parsed::Refused(why) => why.number as u64,
+    match read_request(s) {
+        Ok(q) => put_request(q, row),
+        Err(why) => told(why),
     }
 }
 

@@ -7,9 +7,9 @@ ghost use Rattle.requests_read_pathfinder.specs.Reading.{request_of};
 ghost use Rattle.exports_answers.specs.Told.{code_of, row_after};
 ghost use Rattle.exports_parsed_pathfinder.specs.Requests.{told_fields, told_request};
 
-use exports_answers::put_numbers;
+use exports_answers::{put_numbers, told};
 use requests_pathfinder::Request;
-use requests_read_pathfinder::{Parsed, read_request};
+use requests_read_pathfinder::read_request;
 
 // Reads a Pathfinder request; its opcode, or the register and the value that it sets, go to the front of the row.
 #[unsafe(no_mangle)]
@@ -17,16 +17,9 @@ pub extern "C" fn tracksaffron_pf_parse(s: &[u8], row: &mut [i32]) -> u64
     ensures answer { result ≡ code_of (told_request (request_of s.now)) (length row.old) 0 }
     ensures filled { row.new ≡ row_after (told_request (request_of s.now)) row.old }
 {
-    tell_request(read_request(s), row)
-}
-
-fn tell_request(p: Parsed, row: &mut [i32]) -> u64
-    ensures answer { result ≡ code_of (told_request p) (length row.old) 0 }
-    ensures filled { row.new ≡ row_after (told_request p) row.old }
-{
-    match p {
-        Parsed::Is(q) => tell_fields(q, row),
-        Parsed::Refused(why) => why.number as u64,
+    match read_request(s) {
+        Ok(q) => tell_fields(q, row),
+        Err(why) => told(why),
     }
 }
 

@@ -7,8 +7,8 @@ ghost use Rattle.exports_answers.specs.Told.{code_of, row_after};
 ghost use Rattle.requests_read_tongzhu.specs.Reading.{parsed_of};
 ghost use Rattle.exports_parsed_tongzhu.specs.Requests.{time_numbers, request_told, told_request};
 
-use exports_answers::put_numbers;
-use requests_read_tongzhu::{Parsed, read_request};
+use exports_answers::{put_numbers, told};
+use requests_read_tongzhu::read_request;
 use requests_tongzhu::Request;
 use times_tongzhu::Time;
 
@@ -18,10 +18,9 @@ pub extern "C" fn tracksaffron_tz_parse(s: &[u8], row: &mut [i32]) -> u64
     ensures answer { result ≡ code_of (told_request (parsed_of s.now)) (length row.old) 0 }
     ensures filled { row.new ≡ row_after (told_request (parsed_of s.now)) row.old }
 {
-    let parsed = read_request(s);
-    match parsed {
-        Parsed::Is(q) => put_request(q, row),
-        Parsed::Refused(why) => why.number as u64,
+    match read_request(s) {
+        Ok(q) => put_request(q, row),
+        Err(why) => told(why),
     }
 }
 

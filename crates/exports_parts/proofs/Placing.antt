@@ -1,7 +1,7 @@
 -- Values placed in a row by a loop: a store places one more (`one_more`).
 -- The library's `paste` is the loop's state. Assumes nothing.
 use mathlib.Core.Path.{◌≡◌, refl, sym, ap, ap₂, ◌∙◌}
-use mathlib.Core.List.{List, ◌++◌}
+use mathlib.Core.List.{List, [], ◌∷◌, ◌++◌, map}
 use Prim.Native.Nat.{ℕ, ◌+◌, ◌≤◌, ◌<◌}
 use native.Mathlib.Numerals.{add-one}
 use native.Mathlib.Omega.{arith}
@@ -9,8 +9,9 @@ use borrow.Author.Tests.{le-leb, lt-leb}
 use lib.IntN.{ℤ}
 use lib.ListN.{length, get_or, take, drop, set, length-set}
 use lib.Seq.{paste, paste-zero, paste-suc, take_all}
-use Rattle.refusals.specs.Refused.{room}
-use Rattle.exports_parts.specs.Parts.{fit_code, placed}
+use Rattle.std.specs.Prelude.{Ok, Err}
+use Rattle.refusals.specs.declared.Refusal.TheVariants as refusal
+use Rattle.exports_parts.specs.Parts.{itself, fit_code, placed}
 
 -- n values are to stand from the place `at` on: the first i do, all else is as it was
 abbrev pub Standing : ℕ → ℕ → List ℤ → List ℤ → List ℤ → ℕ → Type 0
@@ -45,10 +46,15 @@ module _ (n at : ℕ) (values old : List ℤ) (size : length values ≡ n) where
   none_placed h = let k : length old < at + length values = omega arith in simp (lt-leb _ _ k)
 
 module _ (at n size : ℕ) where
-  pub they_fit : at + n ≤ size → 0 ≡ fit_code at n size
+  pub they_fit : at + n ≤ size → Ok tt ≡ fit_code at n size
   unfolding fit_code
   they_fit h = simp (le-leb _ _ h)
 
-  pub none_fits : size < at + n → room ≡ fit_code at n size
+  pub none_fits : size < at + n → Err refusal.Room ≡ fit_code at n size
   unfolding fit_code
   none_fits h = simp (lt-leb _ _ h)
+
+-- signed numbers are placed as they are
+pub as_they_are : (zs : List ℤ) → map itself zs ≡ zs
+as_they_are [] = refl
+as_they_are (z ∷ zs) = ap (λ (l : List ℤ). z ∷ l) (as_they_are zs)

@@ -1,12 +1,17 @@
 -- A part of a row (docs/DECISIONS.md, C and Rust): whether values fit there, and what becomes of a row in which they are placed.
 -- Assumes nothing.
-use Rattle.std.specs.Prelude.{ℕ, ◌+◌, List, ◌++◌, leb, ℤ, length, take, drop}
+use Rattle.std.specs.Prelude.{ℕ, ◌+◌, List, ◌++◌, leb, ℤ, length, take, drop, Result, Ok, Err}
 use Rattle.laws.specs.Choice.{pick}
-use Rattle.refusals.specs.Refused.{room}
+use Rattle.refusals.specs.declared.Refusal.{Refusal}
+use Rattle.refusals.specs.declared.Refusal.TheVariants as refusal
 
--- 0 where so many values from the place `at` on fit into a row of this length; else the number of the refusal
-unfoldable pub fit_code : ℕ → ℕ → ℕ → ℕ
-fit_code at n size = pick (leb (at + n) size) 0 room
+-- a signed number as a row holds it
+abbrev pub itself : ℤ → ℤ
+itself z = z
+
+-- whether so many values from the place `at` on fit into a row of this length
+unfoldable pub fit_code : ℕ → ℕ → ℕ → Result Unit Refusal
+fit_code at n size = pick (leb (at + n) size) (Ok tt) (Err refusal.Room)
 
 -- values from the place `at` on, all else as it was; where the row ends before, nothing changes
 unfoldable pub placed : ℕ → List ℤ → List ℤ → List ℤ

@@ -9,9 +9,10 @@ ghost use Rattle.search_pathfinder.specs.Places.{search_of};
 ghost use Rattle.exports_answers.specs.Told.{room_code, over};
 ghost use Rattle.exports_pathfinder.specs.Codes.{reply_code, found_code, found_after};
 
-use exports_answers::coded;
+use exports_answers::{coded, told};
 use records_pathfinder::{Reply, read_reply};
-use search_pathfinder::Found;
+use refusals::Refusal;
+use search_pathfinder::{Found, find};
 
 // Reads the reply to the Pathfinder request `asked`.
 #[unsafe(no_mangle)]
@@ -29,39 +30,32 @@ pub extern "C" fn tracksaffron_pf_find(s: &[u8], found: &mut [usize]) -> u64
     ensures answer { result ≡ found_code (search_of s.now) (length found.old) }
     ensures filled { found.new ≡ found_after (search_of s.now) found.old }
 {
-    tell_found(search_pathfinder::find(s), found)
-}
-
-fn reply_number(r: Reply) -> u64
-    ensures { result ≡ reply_code r }
-{
-    match r {
-        Reply::Words(n) => coded(1, n),
-        Reply::Name(n) => coded(2, n),
-        Reply::Written => coded(3, 0),
-        Reply::Failure(code) => coded(4, code as usize),
-        Reply::Refused(r) => r.number as u64,
+    match find(s) {
+        Some(frame) => put_found(frame, found),
+        None => coded(2, 0),
     }
 }
 
-fn tell_found(f: Found, found: &mut [usize]) -> u64
-    ensures answer { result ≡ found_code f (length found.old) }
-    ensures filled { found.new ≡ found_after f found.old }
+fn reply_number(answer: Result<Reply, Refusal>) -> u64
+    ensures { result ≡ reply_code answer }
 {
-    match f {
-        Found::At(place, len) => put_found(place, len, found),
-        Found::Nothing => coded(2, 0),
+    match answer {
+        Ok(Reply::Words(n)) => coded(1, n),
+        Ok(Reply::Name(n)) => coded(2, n),
+        Ok(Reply::Written) => coded(3, 0),
+        Ok(Reply::Failure(code)) => coded(4, code as usize),
+        Err(why) => told(why),
     }
 }
 
-fn put_found(place: usize, len: usize, found: &mut [usize]) -> u64
+#[tactic(auto, unfolding(exports_answers::specs::Told::over))]
+fn put_found(frame: Found, found: &mut [usize]) -> u64
     ensures answer { result ≡ room_code 1 2 (length found.old) }
-    ensures filled { found.new ≡ over (place ∷ len ∷ []) found.old }
+    ensures filled { found.new ≡ over (frame.place ∷ frame.len ∷ []) found.old }
 {
     if found.len() < 2 {
-        return refusals::ROOM as u64;
+        return told(Refusal::Room);
     }
-    found[0] = place;
-    found[1] = len;
+    found[..2].copy_from_slice(&[frame.place, frame.len]);
     coded(1, 2)
 }

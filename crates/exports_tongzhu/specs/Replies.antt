@@ -1,13 +1,14 @@
 -- What a Tongzhu reply is to a language that shares no enum: the kind of each answer, and its values in the order of their places in the row.
 -- Assumes nothing.
-use Rattle.std.specs.Prelude.{ℕ, List, [], ◌∷◌, ℤ}
+use Rattle.std.specs.Prelude.{ℕ, List, [], ◌∷◌, ℤ, Result, Ok, Err}
 use Rattle.exports_answers.specs.Told.{Told, numbers, plain, refused, joined}
+use Rattle.refusals.specs.declared.Refusal.{Refusal}
 use Rattle.monitor3_tongzhu.specs.declared.Monitor3.{Monitor3}
 use Rattle.monitor3_tongzhu.specs.declared.Lists.{Lists}
 use Rattle.payloads_tongzhu.specs.declared.Answer.{Answer}
 use Rattle.payloads_tongzhu.specs.declared.Answer.TheVariants as is
 use Rattle.records_tongzhu.specs.declared.Reply.{Reply}
-use Rattle.records_tongzhu.specs.Replies.{lists_beside}
+use Rattle.records_tongzhu.specs.Replies.{with_lists}
 use Rattle.flat_tongzhu.specs.Numbers.{status_numbers, monitor2_numbers, monitor3_numbers}
 use Rattle.lists_tongzhu.specs.Lists.{list_parts, list_sizes}
 
@@ -30,11 +31,11 @@ told_as (is.Current v) l = numbers 4 (v ∷ [])
 told_as is.Done l = plain 5 0
 told_as is.NotDone l = plain 6 0
 told_as is.DeviceError l = plain 7 0
-told_as (is.Refused r) l = refused r
 
-abbrev pub told_of : Reply → Told
-told_of r = told_as r.answer r.lists
+abbrev pub told_of : Result Reply Refusal → Told
+told_of (Ok r) = told_as r.answer r.lists
+told_of (Err why) = refused why
 
 -- an answer with the lists that go with it in its payload
-abbrev pub told_in : Answer → List ℕ → Told
-told_in a p = told_as a (lists_beside a p)
+abbrev pub told_in : Result Answer Refusal → List ℕ → Told
+told_in a p = told_of (with_lists a p)

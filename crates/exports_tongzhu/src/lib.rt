@@ -5,38 +5,34 @@
 ghost use Rattle.std.specs.Prelude.{◌≡◌, [], ◌∷◌, length};
 ghost use Rattle.monitor3_tongzhu.specs.Layout.{found_at, lists_at};
 ghost use Rattle.payloads_tongzhu.specs.Payloads.{answer_in};
-ghost use Rattle.records_tongzhu.specs.Replies.{answer_to, reply_of};
+ghost use Rattle.records_tongzhu.specs.Replies.{answer_to, lists_beside, reply_of};
 ghost use Rattle.flat_tongzhu.specs.Numbers.{status_numbers, monitor2_numbers};
 ghost use Rattle.exports_answers.specs.Told.{code_of, row_after, room_code, over};
-ghost use Rattle.exports_tongzhu.specs.Replies.{all_numbers, told_in, told_of};
+ghost use Rattle.exports_tongzhu.specs.Replies.{all_numbers, told_as, told_in, told_of};
 
-use exports_answers::{coded, put_numbers};
-use exports_parts::put_i32;
+use exports_answers::{coded, put_numbers, told};
+use exports_parts::put;
 use flat_tongzhu::{monitor2_numbers, monitor3_numbers, status_numbers};
-use frames_tongzhu::{Frame, read_frame};
+use frames_tongzhu::read_frame;
 use lists_tongzhu::put_lists;
-use monitor3_tongzhu::{Found, Monitor3, Status, read_numbers};
+use monitor3_tongzhu::{Monitor3, Status, read_numbers};
 use payloads_tongzhu::{Answer, Monitor2};
 use records_tongzhu::answer_to;
+use refusals::Refusal;
 
 // How many numbers a monitor 3 has: its own, then 32 cells, 4 bytes of balance, 16 sensors and 16 MOSFET sensors.
 const MONITOR3: usize = 80;
 
 // Reads the reply to the Tongzhu function `asked`; its values go to the front of the row.
 #[unsafe(no_mangle)]
-#[tactic(auto, using(frames_tongzhu::proofs::Ladder::whole_parts, records_tongzhu::proofs::Answers::no_frame, records_tongzhu::proofs::Answers::whole_frame, exports_answers::proofs::Telling::told_refused), unfolding(records_tongzhu::specs::Replies::reply_of))]
+#[tactic(auto, using(frames_tongzhu::proofs::Ladder::whole_parts, frames_tongzhu::proofs::Ladder::payload_part, exports_answers::proofs::Telling::told_refused), unfolding(records_tongzhu::specs::Replies::reply_of))]
 pub extern "C" fn tracksaffron_tz_read(asked: u8, s: &[u8], row: &mut [i32]) -> u64
     ensures answer { result ≡ code_of (told_of (reply_of asked s.now)) (length row.old) 0 }
     ensures filled { row.new ≡ row_after (told_of (reply_of asked s.now)) row.old }
 {
-    let f = read_frame(s);
-    match f {
-        Frame::Refused(why) => why.number as u64,
-        Frame::Whole {
-            function,
-            start,
-            len,
-        } => tell_payload(asked, function, &s[start..start + len], row),
+    match read_frame(s) {
+        Ok(f) => tell_payload(asked, f.function, &s[f.start..f.start + f.len], row),
+        Err(why) => told(why),
     }
 }
 
@@ -46,28 +42,28 @@ fn tell_payload(asked: u8, function: u8, p: &[u8], row: &mut [i32]) -> u64
     ensures answer { result ≡ code_of (told_in (answer_to asked function p.now) p.now) (length row.old) 0 }
     ensures filled { row.new ≡ row_after (told_in (answer_to asked function p.now) p.now) row.old }
 {
-    if asked == 0x12 {
-        if function == 0x12 {
-            return tell_monitor3(p, row);
-        }
+    if asked == 0x12 && function == 0x12 {
+        return tell_monitor3(p, row);
     }
-    tell(answer_to(asked, function, p), p, row)
+    match answer_to(asked, function, p) {
+        Ok(answer) => tell(answer, p, row),
+        Err(why) => told(why),
+    }
 }
 
 fn tell_monitor3(p: &[u8], row: &mut [i32]) -> u64
     ensures answer { result ≡ code_of (told_in (answer_in (found_at p.now 0)) p.now) (length row.old) 0 }
     ensures filled { row.new ≡ row_after (told_in (answer_in (found_at p.now 0)) p.now) row.old }
 {
-    let f = read_numbers(p, 0);
-    match f {
-        Found::Read(m) => put_monitor3(m, p, row),
-        Found::Refused(why) => why.number as u64,
+    match read_numbers(p, 0) {
+        Ok(m) => put_monitor3(m, p, row),
+        Err(why) => told(why),
     }
 }
 
 fn tell(answer: Answer, p: &[u8], row: &mut [i32]) -> u64
-    ensures answer { result ≡ code_of (told_in answer p.now) (length row.old) 0 }
-    ensures filled { row.new ≡ row_after (told_in answer p.now) row.old }
+    ensures answer { result ≡ code_of (told_as answer (lists_beside answer p.now)) (length row.old) 0 }
+    ensures filled { row.new ≡ row_after (told_as answer (lists_beside answer p.now)) row.old }
 {
     match answer {
         Answer::Monitor2(m) => put_monitor2(m, row),
@@ -77,7 +73,6 @@ fn tell(answer: Answer, p: &[u8], row: &mut [i32]) -> u64
         Answer::Done => coded(5, 0),
         Answer::NotDone => coded(6, 0),
         Answer::DeviceError => coded(7, 0),
-        Answer::Refused(why) => why.number as u64,
     }
 }
 
@@ -105,15 +100,16 @@ fn put_current(v: i16, row: &mut [i32]) -> u64
     put_numbers(4, &numbers, row)
 }
 
+#[tactic(auto, unfolding(exports_parts::specs::Parts::fit_code))]
 fn put_monitor3(m: Monitor3, p: &[u8], row: &mut [i32]) -> u64
     ensures answer { result ≡ room_code 2 (length (all_numbers m (lists_at p.now 0))) (length row.old) }
     ensures filled { row.new ≡ over (all_numbers m (lists_at p.now 0)) row.old }
 {
     if row.len() < MONITOR3 {
-        return refusals::ROOM as u64;
+        return told(Refusal::Room);
     }
     let numbers = monitor3_numbers(m);
-    put_i32(&numbers, 0, row);
-    put_lists(p, row);
+    put(&numbers, 0, row).unwrap();
+    put_lists(p, row).unwrap();
     coded(2, MONITOR3)
 }

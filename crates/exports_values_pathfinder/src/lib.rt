@@ -6,9 +6,10 @@
 ghost use Rattle.std.specs.Prelude.{◌≡◌, [], ◌∷◌, length};
 ghost use Rattle.rows_pathfinder.specs.Narrowing.{row_of};
 ghost use Rattle.exports_answers.specs.Told.{code_of, row_after, room_code, over};
-ghost use Rattle.exports_values_pathfinder.specs.Values.{tens_of, millivolts_in, truth_of, told_row};
+ghost use Rattle.exports_values_pathfinder.specs.Values.{millivolts_in, told_row};
 
-use exports_answers::coded;
+use exports_answers::{coded, told};
+use refusals::Refusal;
 use rows_pathfinder::{Row, narrow};
 use units_pathfinder::{TenMillivolts, millivolts_of};
 
@@ -26,42 +27,30 @@ pub extern "C" fn tracksaffron_pf_row(reply: u8, row: u8, word: i32, value: &mut
 pub extern "C" fn tracksaffron_pf_millivolts(tens: i16) -> i32
     ensures { result ≡ millivolts_in tens }
 {
-    let v = millivolts_of(TenMillivolts(tens));
-    v.0
+    millivolts_of(TenMillivolts(tens)).0
 }
 
-fn tell_row(r: Row, value: &mut [i64]) -> u64
-    ensures answer { result ≡ code_of (told_row r) (length value.old) 0 }
-    ensures filled { value.new ≡ row_after (told_row r) value.old }
+fn tell_row(answer: Result<Option<Row>, Refusal>, value: &mut [i64]) -> u64
+    ensures answer { result ≡ code_of (told_row answer) (length value.old) 0 }
+    ensures filled { value.new ≡ row_after (told_row answer) value.old }
 {
-    match r {
-        Row::Number(v) => put_value(1, v, value),
-        Row::TenMillivolts(v) => put_value(2, wide(v), value),
-        Row::Truth(b) => put_value(3, bit(b), value),
-        Row::Missing => coded(4, 0),
-        Row::Refused(why) => why.number as u64,
+    match answer {
+        Ok(Some(Row::Number(v))) => put_value(1, v, value),
+        Ok(Some(Row::TenMillivolts(v))) => put_value(2, i64::from(v.0), value),
+        Ok(Some(Row::Truth(b))) => put_value(3, i64::from(b), value),
+        Ok(None) => coded(4, 0),
+        Err(why) => told(why),
     }
 }
 
+#[tactic(auto, unfolding(exports_answers::specs::Told::over))]
 fn put_value(kind: u8, v: i64, value: &mut [i64]) -> u64
     ensures answer { result ≡ room_code kind 1 (length value.old) }
     ensures filled { value.new ≡ over (v ∷ []) value.old }
 {
-    if value.len() < 1 {
-        return refusals::ROOM as u64;
+    if value.is_empty() {
+        return told(Refusal::Room);
     }
     value[0] = v;
     coded(kind, 1)
-}
-
-fn wide(v: TenMillivolts) -> i64
-    ensures { result ≡ tens_of v }
-{
-    v.0 as i64
-}
-
-fn bit(b: bool) -> i64
-    ensures { result ≡ truth_of b }
-{
-    if b { 1 } else { 0 }
 }

@@ -2,68 +2,44 @@
 // defined in `characters_pace`.
 #![tactic(auto)]
 
-ghost use Rattle.std.specs.Prelude.{◌≡◌, ◌<◌};
+ghost use Rattle.std.specs.Prelude.{◌≡◌};
+ghost use Rattle.std.specs.Option.{is_some};
 ghost use Rattle.digits.specs.Hexes.{digit_of};
-ghost use Rattle.laws.specs.Choice.{pick};
-ghost use Rattle.refusals.specs.Refused.{shape, character};
-ghost use Rattle.characters_pace.specs.Characters.{is_value, all_hex, fault_of};
+ghost use Rattle.characters_pace.specs.Characters.{all_hex, fault_of};
 
-use digits::{Hex, read_digit};
+use digits::read_digit;
+use refusals::Refusal;
 
 // Whether each character is one of 0-9 and A-F. Every character is looked at, so that several are at a time.
 pub fn all_hex(s: &[u8]) -> bool
     ensures { result ≡ all_hex s.now }
 {
-    let mut wrong: u8 = 0;
-    let mut i = 0;
-    while i < s.len() {
-        wrong = noted(wrong, s[i]);
-        i += 1;
+    let mut hex = true;
+    for &c in s {
+        hex &= is_hex(c);
     }
-    wrong == 0
-}
-
-// 1 from the first character on that is no digit.
-fn noted(wrong: u8, c: u8) -> u8
-    requires { wrong < 2 }
-    ensures { result ≡ pick (is_value (digit_of c)) wrong 1 }
-{
-    wrong | mark(c)
-}
-
-fn mark(c: u8) -> u8
-    ensures { result ≡ pick (is_value (digit_of c)) 0 1 }
-{
-    if is_hex(c) { 0 } else { 1 }
+    hex
 }
 
 // Whether a character is one of 0-9 and A-F.
 fn is_hex(c: u8) -> bool
-    ensures { result ≡ is_value (digit_of c) }
+    ensures { result ≡ is_some (digit_of c) }
 {
-    let d = read_digit(c);
-    match d {
-        Hex::Value(_) => true,
-        Hex::Other => false,
-    }
+    read_digit(c).is_some()
 }
 
-// Why characters are no bytes: 13 for one that is no digit, then 8 for an odd count; 0 where they are.
-pub fn fault_of(s: &[u8]) -> u8
+// Why characters are no bytes, if they are none: 13 for one that is no digit, then 8 for an odd count.
+#[tactic(auto, unfolding(characters_pace::specs::Characters::fault_of))]
+pub fn fault_of(s: &[u8]) -> Result<(), Refusal>
     ensures { result ≡ fault_of s.now }
 {
-    first_fault(all_hex(s), s.len() % 2 == 0)
-}
-
-// The first that is met, in the order of 01.
-fn first_fault(hex: bool, even: bool) -> u8
-    ensures { result ≡ pick hex (pick even 0 shape) character }
-{
+    let hex = all_hex(s);
+    let even = s.len() % 2 == 0;
     if !hex {
-        return refusals::CHARACTER;
+        return Err(Refusal::Character);
     }
     if !even {
-        return refusals::SHAPE;
+        return Err(Refusal::Shape);
     }
-    0
+    Ok(())
 }

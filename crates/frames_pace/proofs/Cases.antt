@@ -5,19 +5,19 @@ use mathlib.Core.Bool.{Bool, true, false}
 use mathlib.Core.List.{List}
 use Prim.Native.Nat.{ℕ, ◌-◌, ◌<◌, ◌≤◌}
 use native.Mathlib.Omega.{arith}
-use borrow.Author.Tests.{lt-ltb, le-ltb, eq-eqb, ne_eqb}
+use borrow.Author.Tests.{lt-ltb, le-ltb, eq-eqb}
 use lib.Dec.{eqb}
 use lib.ListN.{length, get_or, take, drop}
+use Rattle.std.specs.Prelude.{Some, Result, Ok, Err}
 use Rattle.laws.specs.Choice.{pick}
 use Rattle.sums.specs.Sums.{total, closes}
-use Rattle.lengths_pace.specs.declared.Length.TheVariants.{Is}
 use Rattle.lengths_pace.specs.Lengths.{count_of}
-use Rattle.refusals.specs.Refused.{refused_with, short, first_mark, last_mark, lengths, checksum, address, character}
+use Rattle.refusals.specs.declared.Refusal.{Refusal}
+use Rattle.refusals.specs.declared.Refusal.TheVariants as refusal
 use Rattle.orders.specs.Orders.{pace_frame}
 use Rattle.frames_pace.specs.declared.Frame.{Frame}
-use Rattle.frames_pace.specs.declared.Frame.TheVariants.{Whole, Refused}
 use Rattle.characters_pace.specs.Characters.{all_hex, bytes_in, word_at}
-use Rattle.frames_pace.specs.Frame.{inner_of, head_of, covered_of, check_of, counted, known, frame_of}
+use Rattle.frames_pace.specs.Frame.{inner_of, head_of, covered_of, check_of, counted, known, read_as, frame_of}
 
 -- ---- parts as the code lends them
 
@@ -35,14 +35,15 @@ sum_lent s w t long e f =
 
 -- ---- the ladder
 
--- w where the number is 0, else the refusal with it
-abbrev answer : ℕ → Frame → Frame
-answer n w = pick (eqb n 0) w (Refused (refused_with n))
+-- w where there is no fault, else the fault
+abbrev answer : Result Unit Refusal → Frame → Result Frame Refusal
+answer (Ok sound) w = Ok w
+answer (Err why) w = Err why
 
--- a ladder of refusals goes by the number of the first fault
+-- a ladder of refusals goes by the first fault
 by_number : (a b c d e f : Bool) (w : Frame)
-    → pick a (pick b (pick c (pick d (pick e (pick f w (Refused (refused_with address))) (Refused (refused_with checksum)))
-    (Refused (refused_with lengths))) (Refused (refused_with character))) (Refused (refused_with last_mark))) (Refused (refused_with first_mark))
+    → pick a (pick b (pick c (pick d (pick e (pick f (Ok w) (Err refusal.Address)) (Err refusal.Checksum))
+    (Err refusal.Length)) (Err refusal.Character)) (Err refusal.LastMark)) (Err refusal.FirstMark)
     ≡ answer (pace_frame a b c d e f) w
 by_number false b c d e f w = refl
 by_number true false c d e f w = refl
@@ -52,14 +53,14 @@ by_number true true true true false f w = refl
 by_number true true true true true false w = refl
 by_number true true true true true true w = refl
 
--- the first fault of an input that is long enough, 0 for a frame
-abbrev pub fault : List ℕ → ℕ
+-- the first fault of an input that is long enough, if it has one
+abbrev pub fault : List ℕ → Result Unit Refusal
 fault s =
     pace_frame (eqb (get_or s 0 0) 0x7E) (eqb (get_or s (length s - 1) 0) 0x0D) (all_hex (inner_of s)) (counted s)
     (closes 65536 (total (covered_of s)) (check_of s)) (known s)
 
--- the number that the reader finds, by tests of the parts that it lends, is this fault
-pub fault_lent : (s : List ℕ) (hex fits closed knows : Bool) (w n : ℕ) → 18 ≤ length s
+-- what the reader finds, by tests of the parts that it lends, is this fault
+pub fault_lent : (s : List ℕ) (hex fits closed knows : Bool) (w : ℕ) (n : Result Unit Refusal) → 18 ≤ length s
     → n ≡ pace_frame (eqb (get_or s 0 0) 0x7E) (eqb (get_or s (length s - 1) 0) 0x0D) hex fits closed knows
     → hex ≡ all_hex (take (length s - 1 - 1) (drop 1 s)) → fits ≡ counted s
     → w ≡ word_at (bytes_in (take (length s - 1 - (length s - 5)) (drop (length s - 5) s))) 0
@@ -67,31 +68,25 @@ pub fault_lent : (s : List ℕ) (hex fits closed knows : Bool) (w n : ℕ) → 1
 fault_lent s hex fits closed knows w n long first h f e k o = first ∙ rw (h, inner_lent s, f, ← (sum_lent s w closed long e k), o)
 
 module _ (s : List ℕ) where
-  pub too_short : length s < 18 → Refused (refused_with short) ≡ frame_of s
+  pub too_short : length s < 18 → Err refusal.Short ≡ frame_of s
   unfolding frame_of
   too_short h = rw (lt-ltb _ _ h)
 
   module _ (long : 18 ≤ length s) where
-    by_fault : frame_of s ≡ answer (fault s) (Whole (get_or (head_of s) 1 0) (get_or (head_of s) 3 0) 13 (length s - 18))
+    by_fault : frame_of s ≡ answer (fault s) (read_as s)
     unfolding frame_of
     by_fault = rw (le-ltb _ _ long, by_number)
 
-    pub faulty : (n : ℕ) → n ≡ fault s → (n ≡ 0 → ⊥) → Refused (refused_with n) ≡ frame_of s
-    faulty n e h = go (fault s) _ e ∙ sym by_fault
-      where
-        go : (m : ℕ) (w : Frame) → n ≡ m → Refused (refused_with n) ≡ answer m w
-        go m w k = rw (← k, ne_eqb _ _ h)
+    pub faulty : (why : Refusal) → Err why ≡ fault s → Err why ≡ frame_of s
+    faulty why e = ap (λ (f : Result Unit Refusal). answer f (read_as s)) e ∙ sym by_fault
 
-    pub faultless : fault s ≡ 0 → Whole (get_or (head_of s) 1 0) (get_or (head_of s) 3 0) 13 (length s - 18) ≡ frame_of s
-    faultless h = go (fault s) _ h ∙ sym by_fault
-      where
-        go : (m : ℕ) (w : Frame) → m ≡ 0 → w ≡ answer m w
-        go m w k = rw k
+    pub faultless : Ok tt ≡ fault s → Ok (read_as s) ≡ frame_of s
+    faultless e = ap (λ (f : Result Unit Refusal). answer f (read_as s)) e ∙ sym by_fault
 
     -- from its parts, as a writer knows them
     pub whole : get_or s 0 0 ≡ 0x7E → get_or s (length s - 1) 0 ≡ 0x0D → all_hex (inner_of s) ≡ true
-        → (n : ℕ) → count_of (word_at (head_of s) 4) ≡ Is n → n ≡ length s - 18 → closes 65536 (total (covered_of s)) (check_of s) ≡ true
+        → (n : ℕ) → count_of (word_at (head_of s) 4) ≡ Some n → n ≡ length s - 18 → closes 65536 (total (covered_of s)) (check_of s) ≡ true
         → get_or (head_of s) 0 0 ≡ 0x25 → get_or (head_of s) 2 0 ≡ 0x46
-        → Whole (get_or (head_of s) 1 0) (get_or (head_of s) 3 0) 13 (length s - 18) ≡ frame_of s
+        → Ok (read_as s) ≡ frame_of s
     whole first last hex n word count sum version cid1 =
         faultless (rw (eq-eqb _ _ first, eq-eqb _ _ last, hex, word, eq-eqb _ _ count, sum, eq-eqb _ _ version, eq-eqb _ _ cid1))

@@ -8,42 +8,39 @@ use native.Mathlib.Omega.{arith}
 use borrow.Author.Tests.{ltb-false, eqb-true}
 use lib.Dec.{ltb, eqb}
 use lib.ListN.{length, get_or, take, drop}
+use Rattle.std.specs.Prelude.{Option, Some, None, Ok}
 use Rattle.laws.proofs.Ladders.{past, into, both}
 use Rattle.sums.specs.Sums.{total, closes}
-use Rattle.lengths_pace.specs.declared.Length.{Length}
-use Rattle.lengths_pace.specs.declared.Length.TheVariants.{Is, Wrong}
 use Rattle.lengths_pace.specs.Lengths.{count_of}
 use Rattle.refusals.specs.declared.Refusal.{Refusal}
-use Rattle.frames_pace.specs.declared.Frame.TheVariants.{Whole, Refused}
+use Rattle.frames_pace.specs.declared.Frame.{Frame}
+use Rattle.refusals.proofs.Writing.{not_refused}
 use Rattle.characters_pace.specs.Characters.{all_hex, word_at}
 use Rattle.characters_pace.proofs.Tests.{hex_split}
-use Rattle.frames_pace.specs.Frame.{inner_of, head_of, covered_of, check_of, info_of, counts, counted, known, frame_of}
+use Rattle.frames_pace.specs.Frame.{inner_of, head_of, covered_of, check_of, info_of, counts, counted, known, read_as, frame_of}
 use Rattle.frames_pace.proofs.Parts.{cut_pieces, head_length, check_length, in_pieces}
 
-pub record Said (s : List ℕ) (address command start len : ℕ) : Type 0 where
-  pub starts : start ≡ 13
-  pub size : len + 18 ≡ length s
+pub record Said (s : List ℕ) (f : Frame) : Type 0 where
+  pub starts : f.start ≡ 13
+  pub size : f.len + 18 ≡ length s
   pub first : get_or s 0 0 ≡ 0x7E
   pub last : get_or s (length s - 1) 0 ≡ 0x0D
   pub hex : all_hex (inner_of s) ≡ true
-  pub word : count_of (word_at (head_of s) 4) ≡ Is len
+  pub word : count_of (word_at (head_of s) 4) ≡ Some f.len
   pub sum : closes 65536 (total (covered_of s)) (check_of s) ≡ true
   pub version : get_or (head_of s) 0 0 ≡ 0x25
   pub cid1 : get_or (head_of s) 2 0 ≡ 0x46
-  pub from : address ≡ get_or (head_of s) 1 0
-  pub asks : command ≡ get_or (head_of s) 3 0
+  pub from : f.address ≡ get_or (head_of s) 1 0
+  pub asks : f.command ≡ get_or (head_of s) 3 0
 
-not_refused : (a c st len : ℕ) (w : Refusal) → Whole a c st len ≡ Refused w → ⊥
-not_refused a c st len w h = let z : ◌≡◌ {A = ℕ} 0 1 = cc in omega arith
+is_count : (l : Option ℕ) (n : ℕ) → counts l n ≡ true → l ≡ Some n
+is_count (Some m) n h = ap Some (eqb-true m n h)
+is_count None n h = absurd cc
 
-is_count : (l : Length) (n : ℕ) → counts l n ≡ true → l ≡ Is n
-is_count (Is m) n h = ap Is (eqb-true m n h)
-is_count Wrong n h = let z : ◌≡◌ {A = ℕ} 0 1 = cc in absurd (omega arith)
-
-pub whole_says : (s : List ℕ) (a c st len : ℕ) → Whole a c st len ≡ frame_of s → Said s a c st len
+pub whole_says : (s : List ℕ) (f : Frame) → Ok f ≡ frame_of s → Said s f
 unfolding frame_of
-whole_says s a c st len h =
-    let no = not_refused a c st len in
+whole_says s f h =
+    let no = λ (w : Refusal). not_refused {A = ⊥} f w in
     let f1 = past (ltb (length s) 18) _ _ _ (no _) h in
     let f2 = into (eqb (get_or s 0 0) 0x7E) _ _ _ (no _) f1.1 in
     let f3 = into (eqb (get_or s (length s - 1) 0) 0x0D) _ _ _ (no _) f2.1 in
@@ -53,30 +50,31 @@ whole_says s a c st len h =
     let f7 = into (known s) _ _ _ (no _) f6.1 in
     let ids = both (eqb (get_or (head_of s) 0 0) 0x25) (eqb (get_or (head_of s) 2 0) 0x46) f7.0 in
     let long = ltb-false (length s) 18 f1.0 in
-    let l : len ≡ length s - 18 = cc f7.1 in
+    let is : f ≡ read_as s = cc f7.1 in
+    let l : f.len ≡ length s - 18 = ap (λ (x : Frame). x.len) is in
     record {
-      starts = cc f7.1;
+      starts = ap (λ (x : Frame). x.start) is;
       size = omega arith;
       first = eqb-true _ _ f2.0;
       last = eqb-true _ _ f3.0;
       hex = f4.0;
-      word = is_count (count_of (word_at (head_of s) 4)) (length s - 18) f5.0 ∙ ap Is (sym l);
+      word = is_count (count_of (word_at (head_of s) 4)) (length s - 18) f5.0 ∙ ap Some (sym l);
       sum = f6.0;
       version = eqb-true _ _ ids.0;
       cid1 = eqb-true _ _ ids.1;
-      from = cc f7.1;
-      asks = cc f7.1;
+      from = ap (λ (x : Frame). x.address) is;
+      asks = ap (λ (x : Frame). x.command) is;
     }
 
 -- the part that an upper layer cuts out by start and length is INFO
-pub info_lent : (s : List ℕ) (a c st len : ℕ) → Said s a c st len → take (st + len - st) (drop st s) ≡ info_of s
-info_lent s a c st len d =
-    let n : st + len - st ≡ length s - 18 = omega arith in
+pub info_lent : (s : List ℕ) (f : Frame) → Said s f → take (f.start + f.len - f.start) (drop f.start s) ≡ info_of s
+info_lent s f d =
+    let n : f.start + f.len - f.start ≡ length s - 18 = omega arith in
     rw (n, d.starts)
 
 -- INFO has digits alone
-pub info_hex : (s : List ℕ) (a c st len : ℕ) → Said s a c st len → all_hex (info_of s) ≡ true
-info_hex s a c st len d =
+pub info_hex : (s : List ℕ) (f : Frame) → Said s f → all_hex (info_of s) ≡ true
+info_hex s f d =
     let long : 18 ≤ length s = omega (arith, d.size) in
     let head = take 12 (drop 1 s) in
     let check = take 4 (drop (length s - 5) s) in

@@ -1,15 +1,13 @@
 -- What reading a PACE frame finds: the refusals in the order 1, 2, 3, 13, 4, 5, 6, or the frame (01, PACE; 01, Refusal numbers).
 -- A frame: ~, version, address, CID1, command, LENGTH (4 characters), INFO, CHKSUM (4 characters), carriage return.
 -- Assumes nothing.
-use Rattle.std.specs.Prelude.{Bool, false, ◌&&◌, List, ℕ, ◌-◌, ltb, eqb, length, get_or, take, drop}
+use Rattle.std.specs.Prelude.{Bool, false, ◌&&◌, List, Option, Some, None, Result, Ok, Err, ℕ, ◌-◌, ltb, eqb, length, get_or, take, drop}
 use Rattle.laws.specs.Choice.{pick}
 use Rattle.sums.specs.Sums.{total, closes}
-use Rattle.lengths_pace.specs.declared.Length.{Length}
-use Rattle.lengths_pace.specs.declared.Length.TheVariants.{Is, Wrong}
 use Rattle.lengths_pace.specs.Lengths.{count_of}
-use Rattle.refusals.specs.Refused.{refused_with, short, first_mark, last_mark, lengths, checksum, address, character}
+use Rattle.refusals.specs.declared.Refusal.{Refusal}
+use Rattle.refusals.specs.declared.Refusal.TheVariants as refusal
 use Rattle.frames_pace.specs.declared.Frame.{Frame}
-use Rattle.frames_pace.specs.declared.Frame.TheVariants.{Whole, Refused}
 use Rattle.characters_pace.specs.Characters.{all_hex, bytes_in, word_at}
 
 -- what stands between the marks
@@ -35,9 +33,9 @@ abbrev pub payload_of : List ℕ → List ℕ
 payload_of s = bytes_in (info_of s)
 
 -- the LENGTH word has this count
-abbrev pub counts : Length → ℕ → Bool
-counts (Is n) m = eqb n m
-counts Wrong m = false
+abbrev pub counts : Option ℕ → ℕ → Bool
+counts (Some n) m = eqb n m
+counts None m = false
 
 -- INFO has as many characters as LENGTH says
 abbrev pub counted : List ℕ → Bool
@@ -48,19 +46,22 @@ abbrev pub known : List ℕ → Bool
 known s = eqb (get_or (head_of s) 0 0) 0x25 && eqb (get_or (head_of s) 2 0) 0x46
 
 -- a whole frame: its address, its command or return code, where INFO begins, how many characters it has
-unfoldable pub frame_of : List ℕ → Frame
+abbrev pub read_as : List ℕ → Frame
+read_as s = record { address = get_or (head_of s) 1 0; command = get_or (head_of s) 3 0; start = 13; len = length s - 18 }
+
+unfoldable pub frame_of : List ℕ → Result Frame Refusal
 frame_of s =
-    pick (ltb (length s) 18) (Refused (refused_with short))
+    pick (ltb (length s) 18) (Err refusal.Short)
     (pick (eqb (get_or s 0 0) 0x7E)
     (pick (eqb (get_or s (length s - 1) 0) 0x0D)
     (pick (all_hex (inner_of s))
     (pick (counted s)
     (pick (closes 65536 (total (covered_of s)) (check_of s))
     (pick (known s)
-    (Whole (get_or (head_of s) 1 0) (get_or (head_of s) 3 0) 13 (length s - 18))
-    (Refused (refused_with address)))
-    (Refused (refused_with checksum)))
-    (Refused (refused_with lengths)))
-    (Refused (refused_with character)))
-    (Refused (refused_with last_mark)))
-    (Refused (refused_with first_mark)))
+    (Ok (read_as s))
+    (Err refusal.Address))
+    (Err refusal.Checksum))
+    (Err refusal.Length))
+    (Err refusal.Character))
+    (Err refusal.LastMark))
+    (Err refusal.FirstMark))

@@ -9,9 +9,9 @@ ghost use Rattle.frames_pace.specs.Frame.{counts, frame_of};
 
 use characters_pace::{byte_of, word_of};
 use faults_pace::all_hex;
-use lengths_pace::{Length, length_count};
+use lengths_pace::length_count;
 use orders::pace_frame;
-use refusals::{Refusal, refuse};
+use refusals::Refusal;
 use sums::closes65536;
 
 pub const VERSION: u8 = 0x25;
@@ -22,25 +22,22 @@ pub const FIRST: u8 = 0x7E;
 
 pub const LAST: u8 = 0x0D;
 
-#[derive(Drop)]
-pub enum Frame {
-    // A whole frame: where its INFO starts and how many characters it has. In a reply the command is a return code.
-    Whole {
-        address: u8,
-        command: u8,
-        start: usize,
-        len: usize,
-    },
-    Refused(Refusal),
+// A whole frame: where its INFO starts and how many characters it has. In a reply the command is a return code.
+#[derive(Clone, Copy, Debug, PartialEq, Eq)]
+pub struct Frame {
+    pub address: u8,
+    pub command: u8,
+    pub start: usize,
+    pub len: usize,
 }
 
 // The frame that the characters are, or why they are none. The address is the caller's to compare.
-pub fn read_frame(s: &[u8]) -> Frame
+pub fn read_frame(s: &[u8]) -> Result<Frame, Refusal>
     ensures { result ≡ frame_of s.now }
 {
     let n = s.len();
     if n < 18 {
-        return Frame::Refused(refuse(refusals::SHORT));
+        return Err(Refusal::Short);
     }
     // Of 18 characters or more every test can be made, whatever the others say.
     let head = &s[1..13];
@@ -50,26 +47,20 @@ pub fn read_frame(s: &[u8]) -> Frame
     let fits = has_count(head, n - 18);
     let closes = closes65536(&s[1..n - 5], word_of(&s[n - 5..n - 1], 0));
     let known = is_known(head);
-    let fault = pace_frame(starts, ends, hex, fits, closes, known);
-    if fault != 0 {
-        return Frame::Refused(refuse(fault));
-    }
-    Frame::Whole {
+    pace_frame(starts, ends, hex, fits, closes, known)?;
+    Ok(Frame {
         address: byte_of(head, 1),
         command: byte_of(head, 3),
         start: 13,
         len: n - 18,
-    }
+    })
 }
 
 // Whether LENGTH, after the header's first four bytes, has its right digit and counts so many characters.
 fn has_count(head: &[u8], len: usize) -> bool
     ensures { result ≡ counts (count_of (word_at (bytes_in head.now) 4)) len }
 {
-    let Length::Is(count) = length_count(word_of(head, 4)) else {
-        return false;
-    };
-    count as usize == len
+    length_count(word_of(head, 4)).is_some_and(|count| count as usize == len)
 }
 
 // Whether the version is 25 and CID1 46.

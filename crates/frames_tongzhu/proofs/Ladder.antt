@@ -5,17 +5,18 @@ use mathlib.Core.Bool.{Bool, true, false, ◌&&◌}
 use mathlib.Core.List.{List, []}
 use Prim.Native.Nat.{ℕ, suc, ◌+◌, ◌-◌, ◌%◌, ◌<◌, ◌≤◌}
 use native.Mathlib.Omega.{arith}
-use borrow.Author.Tests.{lt-ltb, le-ltb, eq-eqb, ne_eqb, ltb-false, eqb-true}
+use borrow.Author.Tests.{le-ltb, eq-eqb, ne_eqb, ltb-false, eqb-true}
 use lib.Dec.{ltb, eqb}
 use lib.ListN.{length, get_or, take, drop}
 use lib.Seq.{get_or-take, length-take-le, take_all, take-suc}
+use Rattle.std.specs.Prelude.{Ok, Err}
 use Rattle.laws.proofs.Ladders.{past, into, both}
-use Rattle.refusals.specs.declared.Refusal.{Refusal}
-use Rattle.refusals.specs.Refused.{refused_with, short, first_mark, lengths, checksum, address}
+use Rattle.refusals.specs.declared.Refusal.TheVariants as refusal
+use Rattle.refusals.proofs.Writing.{not_refused}
 use Rattle.sums.specs.Sums.{total, closes}
 use Rattle.sums.proofs.Closing.{total_at}
-use Rattle.frames_tongzhu.specs.declared.Frame.TheVariants.{Whole, Refused}
-use Rattle.frames_tongzhu.specs.Reading.{checked, check, frame_of}
+use Rattle.frames_tongzhu.specs.declared.Frame.{Frame}
+use Rattle.frames_tongzhu.specs.Reading.{checked, check, framed, frame_of}
 
 -- the sum of all bytes is that of all but the last, and the last: the check
 all_summed : (s : List ℕ) → 6 ≤ length s → total s ≡ total (checked s) + check s
@@ -30,16 +31,12 @@ all_summed s long =
 pub check_test : (s : List ℕ) (sum : ℕ) → 6 ≤ length s → sum ≡ total s % 256 → closes 256 (total (checked s)) (check s) ≡ eqb sum 0
 check_test s sum long e = rw (e, all_summed s long)
 
-pub too_short : (s : List ℕ) → length s < 6 → Refused (refused_with short) ≡ frame_of s
-unfolding frame_of
-too_short s h = simp (lt-ltb _ _ h)
-
 module _ (s : List ℕ) (long : 6 ≤ length s) where
-  pub wrong_mark : eqb (get_or s 0 0) 0x7F ≡ false → Refused (refused_with first_mark) ≡ frame_of s
+  pub wrong_mark : eqb (get_or s 0 0) 0x7F ≡ false → Err refusal.FirstMark ≡ frame_of s
   unfolding frame_of
   wrong_mark h = simp (le-ltb _ _ long, h)
 
-  pub wrong_length : eqb (get_or s 0 0) 0x7F ≡ true → eqb (length s) (get_or s 3 0) ≡ false → Refused (refused_with lengths) ≡ frame_of s
+  pub wrong_length : eqb (get_or s 0 0) 0x7F ≡ true → eqb (length s) (get_or s 3 0) ≡ false → Err refusal.Length ≡ frame_of s
   unfolding frame_of
   wrong_length starts h = simp (le-ltb _ _ long, starts, h)
 
@@ -50,23 +47,15 @@ pub record Fitting (s : List ℕ) : Type 0 where
   pub fits : eqb (length s) (get_or s 3 0) ≡ true
 
 module _ (s : List ℕ) (k : Fitting s) where
-  pub wrong_check : closes 256 (total (checked s)) (check s) ≡ false → Refused (refused_with checksum) ≡ frame_of s
-  unfolding frame_of
-  wrong_check h = simp (le-ltb _ _ k.long, k.starts, k.fits, h)
-
   module _ (closed : closes 256 (total (checked s)) (check s) ≡ true) where
-    pub wrong_address : eqb (get_or s 1 0) 0x10 && eqb (get_or s 2 0) 0x02 ≡ false → Refused (refused_with address) ≡ frame_of s
-    unfolding frame_of
-    wrong_address h = simp (le-ltb _ _ k.long, k.starts, k.fits, closed, h)
-
-    pub taken : eqb (get_or s 1 0) 0x10 && eqb (get_or s 2 0) 0x02 ≡ true → Whole (get_or s 4 0) 5 (length s - 6) ≡ frame_of s
+    pub taken : eqb (get_or s 1 0) 0x10 && eqb (get_or s 2 0) 0x02 ≡ true → Ok (framed (get_or s 4 0) 5 (length s - 6)) ≡ frame_of s
     unfolding frame_of
     taken h = simp (le-ltb _ _ k.long, k.starts, k.fits, closed, h)
 
 -- ---- what is a whole frame
 
 pub whole : (s : List ℕ) → 6 ≤ length s → get_or s 0 0 ≡ 0x7F → length s ≡ get_or s 3 0 → closes 256 (total (checked s)) (check s) ≡ true
-    → get_or s 1 0 ≡ 0x10 → get_or s 2 0 ≡ 0x02 → Whole (get_or s 4 0) 5 (length s - 6) ≡ frame_of s
+    → get_or s 1 0 ≡ 0x10 → get_or s 2 0 ≡ 0x02 → Ok (framed (get_or s 4 0) 5 (length s - 6)) ≡ frame_of s
 whole s long mark declared closed home version =
     taken s (record { long = long; starts = eq-eqb _ _ mark; fits = eq-eqb _ _ declared }) closed (rw (eq-eqb _ _ home, eq-eqb _ _ version))
 
@@ -100,23 +89,20 @@ long_input s long byte = go (eqb (get_or s 0 0) 0x7F) refl
 pub payload_part : (st n : ℕ) (s : List ℕ) → take (st + n - st) (drop st s) ≡ take n (drop st s)
 payload_part st n s = let e : st + n - st ≡ n = omega arith in rw e
 
-pub not_refused : (f st n : ℕ) (r : Refusal) → Whole f st n ≡ Refused r → ⊥
-not_refused f st n r h = let z : ◌≡◌ {A = ℕ} 0 1 = cc in omega arith
-
-pub record Parts (s : List ℕ) (f st n : ℕ) : Type 0 where
+pub record Parts (s : List ℕ) (f : Frame) : Type 0 where
   pub mark : get_or s 0 0 ≡ 0x7F
   pub home : get_or s 1 0 ≡ 0x10
   pub version : get_or s 2 0 ≡ 0x02
   pub declared : length s ≡ get_or s 3 0
-  pub function : f ≡ get_or s 4 0
-  pub start : st ≡ 5
-  pub count : n + 6 ≡ length s
+  pub function : f.function ≡ get_or s 4 0
+  pub start : f.start ≡ 5
+  pub count : f.len + 6 ≡ length s
   pub closed : closes 256 (total (checked s)) (check s) ≡ true
 
-pub whole_parts : (s : List ℕ) (f st n : ℕ) → Whole f st n ≡ frame_of s → Parts s f st n
+pub whole_parts : (s : List ℕ) (f : Frame) → Ok f ≡ frame_of s → Parts s f
 unfolding frame_of
-whole_parts s f st n h =
-    let no = not_refused f st n in
+whole_parts s f h =
+    let no = not_refused f in
     let a = past (ltb (length s) 6) _ _ _ (no _) h in
     let b = into (eqb (get_or s 0 0) 0x7F) _ _ _ (no _) a.1 in
     let d = into (eqb (length s) (get_or s 3 0)) _ _ _ (no _) b.1 in
@@ -124,14 +110,15 @@ whole_parts s f st n h =
     let w = into (eqb (get_or s 1 0) 0x10 && eqb (get_or s 2 0) 0x02) _ _ _ (no _) e.1 in
     let v = both (eqb (get_or s 1 0) 0x10) (eqb (get_or s 2 0) 0x02) w.0 in
     let long : 6 ≤ length s = ltb-false _ _ a.0 in
-    let l : n ≡ length s - 6 = cc w.1 in
+    let is : f ≡ framed (get_or s 4 0) 5 (length s - 6) = cc w.1 in
+    let l : f.len ≡ length s - 6 = ap (λ (x : Frame). x.len) is in
     record {
       mark = eqb-true _ _ b.0;
       home = eqb-true _ _ v.0;
       version = eqb-true _ _ v.1;
       declared = eqb-true _ _ d.0;
-      function = cc w.1;
-      start = cc w.1;
+      function = ap (λ (x : Frame). x.function) is;
+      start = ap (λ (x : Frame). x.start) is;
       count = omega arith;
       closed = e.0;
     }

@@ -3,31 +3,26 @@
 #![tactic(auto)]
 
 ghost use Rattle.std.specs.Prelude.{◌≡◌, ◌&&◌, eqb};
-ghost use Rattle.refusals.specs.Refused.{refused_with};
 ghost use Rattle.frames_tongzhu.specs.Reading.{frame_of};
 
-use refusals::{Refusal, refuse};
+use refusals::Refusal;
 use sums::sum256;
 
-// What the input is.
-#[derive(Drop)]
-pub enum Frame {
-    // A whole frame: its function, where its payload starts and how many bytes the payload has.
-    Whole {
-        function: u8,
-        start: usize,
-        len: usize,
-    },
-    Refused(Refusal),
+// A whole frame: its function, where its payload starts and how many bytes the payload has.
+#[derive(Clone, Copy, Debug, PartialEq, Eq)]
+pub struct Frame {
+    pub function: u8,
+    pub start: usize,
+    pub len: usize,
 }
 
 // Reads a frame, a reply's or a request's.
 #[tactic(auto, using(crate::proofs::Ladder::check_test), unfolding(crate::specs::Reading::frame_of))]
-pub fn read_frame(s: &[u8]) -> Frame
+pub fn read_frame(s: &[u8]) -> Result<Frame, Refusal>
     ensures { result ≡ frame_of s.now }
 {
     if s.len() < 6 {
-        return refused(refusals::SHORT);
+        return Err(Refusal::Short);
     }
     // Of 6 bytes or more every test can be made, whatever the others say; the refusals are a ladder in the order of 01.
     let starts = s[0] == 0x7F;
@@ -35,22 +30,22 @@ pub fn read_frame(s: &[u8]) -> Frame
     let closes = sum256(s) == 0;
     let addressed = is_addressed(s[1], s[2]);
     if !starts {
-        return refused(refusals::FIRST_MARK);
+        return Err(Refusal::FirstMark);
     }
     if !fits {
-        return refused(refusals::LENGTH);
+        return Err(Refusal::Length);
     }
     if !closes {
-        return refused(refusals::CHECKSUM);
+        return Err(Refusal::Checksum);
     }
     if !addressed {
-        return refused(refusals::ADDRESS);
+        return Err(Refusal::Address);
     }
-    Frame::Whole {
+    Ok(Frame {
         function: s[4],
         start: 5,
         len: s.len() - 6,
-    }
+    })
 }
 
 // Whether the address is 10 and the version 02.
@@ -58,10 +53,4 @@ fn is_addressed(address: u8, version: u8) -> bool
     ensures { result ≡ (eqb address 0x10 && eqb version 0x02) }
 {
     address == 0x10 && version == 0x02
-}
-
-fn refused(number: u8) -> Frame
-    ensures { result ≡ Frame.Refused (refused_with number) }
-{
-    Frame::Refused(refuse(number))
 }

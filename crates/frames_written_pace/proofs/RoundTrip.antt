@@ -11,15 +11,17 @@ use Rattle.laws.specs.Firsts.{firsts}
 use Rattle.laws.proofs.Firsts.{listed}
 use Rattle.sums.specs.Sums.{total, closing, closes}
 use Rattle.sums.proofs.Closing.{closing_lt, test_closing, test_only}
-use Rattle.lengths_pace.specs.declared.Length.TheVariants.{Is}
+use Rattle.std.specs.Prelude.{Some, Result, Ok}
 use Rattle.digits.specs.Hexes.{digit_of}
 use Rattle.lengths_pace.specs.Lengths.{low_digits, length_word, count_of}
 use Rattle.lengths_pace.proofs.Counts.{count_reads_back, word_writes_back}
 use Rattle.numbers.specs.declared.Order.TheVariants.{HighFirst}
 use Rattle.numbers.specs.Bytes.{bytes_of}
 use Rattle.numbers.proofs.Orders.{Bytes, written_reads_back, read_writes_back}
-use Rattle.frames_pace.specs.declared.Frame.TheVariants.{Whole}
-use Rattle.characters_pace.specs.Characters.{is_value, all_hex, bytes_in, hexed, word_at}
+use Rattle.refusals.specs.declared.Refusal.{Refusal}
+use Rattle.frames_pace.specs.declared.Frame.{Frame}
+use Rattle.std.specs.Option.{is_some}
+use Rattle.characters_pace.specs.Characters.{all_hex, bytes_in, hexed, word_at}
 use Rattle.frames_pace.specs.Frame.{inner_of, head_of, covered_of, check_of, info_of, payload_of, frame_of}
 use Rattle.frames_written_pace.specs.Written.{head_bytes, body_chars, end_chars, frame_chars}
 use Rattle.characters_pace.proofs.Carried.{hexed_length, hexed_all, hexed_reads_back, bytes_length, bytes_small, read_writes_back as hexes-back}
@@ -31,7 +33,10 @@ use Rattle.frames_pace.proofs.Whole.{Said, whole_says}
 -- ---- written, then read
 
 abbrev is_hex : ℕ → Bool
-is_hex c = is_value (digit_of c)
+is_hex c = is_some (digit_of c)
+
+abbrev framed : Frame → Result Frame Refusal
+framed f = Ok f
 
 word_small : (n : ℕ) → n < 4096 → length_word n < 65536
 word_small n h = omega (arith, closing_lt 16 (lit< tt) (low_digits n))
@@ -89,7 +94,7 @@ module _ (address command : ℕ) (info : List ℕ) (a : address < 256) (c : comm
       ∙ test_closing 65536 (lit< tt) sum
 
   -- a frame that was written is read back
-  pub frame_reads_back : length info ≤ 2047 → Whole address command 13 (2 * length info) ≡ frame_of (frame_chars address command info)
+  pub frame_reads_back : length info ≤ 2047 → Ok (record { address = address; command = command; start = 13; len = 2 * length info }) ≡ frame_of (frame_chars address command info)
   unfolding head
   frame_reads_back short =
       let s = pieces 0x7E (hexed head) (hexed info) (hexed check) 0x0D in
@@ -97,10 +102,10 @@ module _ (address command : ℕ) (info : List ℕ) (a : address < 256) (c : comm
       let size = hexed_length info in
       let long = cut.size in
       let count : n ≡ length s - 18 = omega arith in
-      let word : count_of (word_at (head_of s) 4) ≡ Is n =
+      let word : count_of (word_at (head_of s) 4) ≡ Some n =
       ap (λ (l : List ℕ). count_of (word_at l 4)) heads
       ∙ ap count_of (word_back (length_word n) (word_small n (omega arith))) ∙ count_reads_back n (omega arith) in
-      ap₂ (λ (l : List ℕ) (k : ℕ). Whole (get_or l 1 0) (get_or l 3 0) 13 k) (sym heads) count
+      ap₂ (λ (l : List ℕ) (k : ℕ). framed (record { address = get_or l 1 0; command = get_or l 3 0; start = 13; len = k })) (sym heads) count
       ∙ whole s (omega arith) refl cut.last all n word count closed (ap (λ (l : List ℕ). get_or l 0 0) heads) (ap (λ (l : List ℕ). get_or l 2 0) heads)
       ∙ ap frame_of (sym as_pieces)
 
@@ -117,9 +122,9 @@ byte_in [] i b = lit< tt
 byte_in (x ∷ l) zero b = b.0
 byte_in (x ∷ l) (suc i) b = byte_in l i b.1
 
-module _ (s : List ℕ) (a c st len : ℕ) (w : Whole a c st len ≡ frame_of s) where
-  d : Said s a c st len
-  d = whole_says s a c st len w
+module _ (s : List ℕ) (f : Frame) (w : Ok f ≡ frame_of s) where
+  d : Said s f
+  d = whole_says s f w
 
   long : 18 ≤ length s
   long = omega (arith, d.size)
@@ -140,15 +145,15 @@ module _ (s : List ℕ) (a c st len : ℕ) (w : Whole a c st len ≡ frame_of s)
 
   hexes : (all_hex h ≡ true) × ((all_hex (info_of s) ≡ true) × (all_hex e ≡ true))
   hexes =
-      let f = all_split is_hex h (info_of s ++ e) (sym (ap all_hex (ap inner_of whole_s ∙ cut_s.inner)) ∙ d.hex) in
-      (f.0, all_split is_hex (info_of s) e f.1)
+      let t = all_split is_hex h (info_of s ++ e) (sym (ap all_hex (ap inner_of whole_s ∙ cut_s.inner)) ∙ d.hex) in
+      (t.0, all_split is_hex (info_of s) e t.1)
 
   -- the payload is of bytes
   pub payload_bytes : Bytes (payload_of s)
   payload_bytes = bytes_small (info_of s) hexes.1.0
 
   -- the header was written from address, command and length
-  head_again : hexed (head_bytes a c len) ≡ h
+  head_again : hexed (head_bytes f.address f.command f.len) ≡ h
   unfolding h firsts
   head_again =
       let l = head_of s in
@@ -157,9 +162,9 @@ module _ (s : List ℕ) (a c st len : ℕ) (w : Whole a c st len ≡ frame_of s)
       let x = get_or l 4 0 in
       let y = get_or l 5 0 in
       let small : word_at l 4 < 65536 = omega (arith, byte_in l 4 bs, byte_in l 5 bs) in
-      let pair : bytes_of HighFirst 2 (length_word len) ≡ x ∷ y ∷ [] =
-      ap (bytes_of HighFirst 2) (word_writes_back (word_at l 4) len small d.word) ∙ pair_back x y (byte_in l 4 bs) (byte_in l 5 bs) in
-      let same : head_bytes a c len ≡ l =
+      let pair : bytes_of HighFirst 2 (length_word f.len) ≡ x ∷ y ∷ [] =
+      ap (bytes_of HighFirst 2) (word_writes_back (word_at l 4) f.len small d.word) ∙ pair_back x y (byte_in l 4 bs) (byte_in l 5 bs) in
+      let same : head_bytes f.address f.command f.len ≡ l =
       rw (pair, d.from, d.asks) (rw (d.version, d.cid1) at (listed l 6 six_long)) in
       ap hexed same ∙ hexes-back h 6 hexes.0 (head_length s long)
 
@@ -179,19 +184,19 @@ module _ (s : List ℕ) (a c st len : ℕ) (w : Whole a c st len ≡ frame_of s)
       ap hexed (ap (bytes_of HighFirst 2) (sym right) ∙ pair_back x y (byte_in l 0 bs) (byte_in l 1 bs) ∙ listed l 2 two_long)
       ∙ hexes-back e 2 hexes.1.1 (check_length s long)
 
-  module _ (k : ℕ) (even : len ≡ 2 * k) where
+  module _ (k : ℕ) (even : f.len ≡ 2 * k) where
     info_again : hexed (payload_of s) ≡ info_of s
     info_again = hexes-back (info_of s) k hexes.1.0 (info_length s long ∙ omega (arith, d.size))
 
-    payload_length : 2 * length (payload_of s) ≡ len
+    payload_length : 2 * length (payload_of s) ≡ f.len
     payload_length = omega (arith, bytes_length (info_of s), info_length s long, d.size)
 
     -- a frame that was read is the one written from what was read
-    pub frame_writes_back : frame_chars a c (payload_of s) ≡ s
+    pub frame_writes_back : frame_chars f.address f.command (payload_of s) ≡ s
     unfolding frame_chars
     frame_writes_back =
-        let body : body_chars a c (payload_of s) ≡ h ++ info_of s =
-        ap₂ ◌++◌ (ap (λ (n : ℕ). hexed (head_bytes a c n)) payload_length ∙ head_again) info_again in
+        let body : body_chars f.address f.command (payload_of s) ≡ h ++ info_of s =
+        ap₂ ◌++◌ (ap (λ (n : ℕ). hexed (head_bytes f.address f.command n)) payload_length ∙ head_again) info_again in
         ap (λ (l : List ℕ). 0x7E ∷ (l ++ end_chars l)) body
         ∙ ap (λ (l : List ℕ). 0x7E ∷ ((h ++ info_of s) ++ (l ++ 0x0D ∷ []))) check_again
         ∙ ap (λ (l : List ℕ). 0x7E ∷ l) (append_assoc h (info_of s) (e ++ 0x0D ∷ []))

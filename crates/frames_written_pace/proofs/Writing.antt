@@ -10,13 +10,12 @@ use lib.ListN.{length, get_or, take, drop, set, length-append, length-drop, drop
 use lib.Seq.{take_at, drop-drop, drop-append-add}
 use Rattle.laws.proofs.Filling.{one_more, part_more, part_length}
 use Rattle.sums.specs.Sums.{total, closing}
-use Rattle.lengths_pace.specs.declared.Length.TheVariants.{Is, Wrong}
+use Rattle.std.specs.Prelude.{Some, None, Result, Ok}
 use Rattle.lengths_pace.specs.Lengths.{word_of, length_word}
 use Rattle.numbers.specs.declared.Order.TheVariants.{HighFirst}
 use Rattle.numbers.specs.Bytes.{bytes_of}
 use Rattle.characters_pace.specs.Characters.{hexed}
-use Rattle.refusals.specs.declared.Written.{Written}
-use Rattle.refusals.specs.declared.Written.TheVariants.{Frame}
+use Rattle.refusals.specs.declared.Refusal.{Refusal}
 use Rattle.refusals.specs.Writing.{written_as, room_after, over_long}
 use Rattle.refusals.proofs.Writing.{frame_says, short_says, just_filled}
 use Rattle.frames_written_pace.specs.Written.{head_bytes, body_chars, end_of, end_chars, frame_chars, framed_as, sealed}
@@ -24,15 +23,15 @@ use Rattle.characters_pace.proofs.Carried.{hexed_length}
 
 -- ---- the header
 
-word_of_count : (n : ℕ) → n < 4096 → word_of n ≡ Is (length_word n)
+word_of_count : (n : ℕ) → n < 4096 → word_of n ≡ Some (length_word n)
 unfolding word_of
 word_of_count n h = rw (lt-ltb _ _ h)
 
 -- a count below 4,096 has a LENGTH word
-pub no_word : {A : Type 0} (n : ℕ) → n < 4096 → word_of n ≡ Wrong → A
-no_word n h e = let right = word_of_count n h in let z : ◌≡◌ {A = ℕ} 0 1 = cc in absurd (omega arith)
+pub no_word : {A : Type 0} (n : ℕ) → n < 4096 → word_of n ≡ None → A
+no_word n h e = let right = word_of_count n h in absurd cc
 
-pub head_is : (pair : List ℕ) (address command n word : ℕ) → n < 4096 → word_of n ≡ Is word → pair ≡ bytes_of HighFirst 2 word
+pub head_is : (pair : List ℕ) (address command n word : ℕ) → n < 4096 → word_of n ≡ Some word → pair ≡ bytes_of HighFirst 2 word
     → hexed (0x25 ∷ address ∷ 0x46 ∷ command ∷ get_or pair 0 0 ∷ get_or pair 1 0 ∷ []) ≡ hexed (head_bytes address command n)
 head_is pair address command n word h e p =
     let right = word_of_count n h in
@@ -42,7 +41,7 @@ head_is pair address command n word h e p =
 -- ---- the end
 
 -- bytes put as characters into a part of just their size
-pub put_exact : (bs part ys : List ℕ) (w : Written) → length part ≡ 2 * length bs → w ≡ written_as 0 (length (hexed bs)) (length part)
+pub put_exact : (bs part ys : List ℕ) (w : Result ℕ Refusal) → length part ≡ 2 * length bs → w ≡ written_as (Ok tt) (length (hexed bs)) (length part)
     → ys ≡ room_after w (hexed bs) part → ys ≡ hexed bs
 put_exact bs part ys w size e put = put ∙ just_filled (hexed bs) part w e (omega (arith, hexed_length bs))
 
@@ -83,9 +82,9 @@ closed_front body old n long =
     ∙ sym (append_assoc front (end_chars body) (drop (n + 18) old))
 
 -- first mark, header and INFO, closed
-pub frame_is : (old head load info : List ℕ) (address command n : ℕ) (w : Written) → n + 18 ≤ length old → n ≡ 2 * length info
+pub frame_is : (old head load info : List ℕ) (address command n : ℕ) (w : Result ℕ Refusal) → n + 18 ≤ length old → n ≡ 2 * length info
     → head ≡ hexed (head_bytes address command n)
-    → w ≡ written_as 0 (length (hexed info)) (length (take (n + 13 - 13) (drop 13 (put_mid 1 12 (set old 0 0x7E) head))))
+    → w ≡ written_as (Ok tt) (length (hexed info)) (length (take (n + 13 - 13) (drop 13 (put_mid 1 12 (set old 0 0x7E) head))))
     → load ≡ room_after w (hexed info) (take (n + 13 - 13) (drop 13 (put_mid 1 12 (set old 0 0x7E) head)))
     → sealed n (put_mid 13 (n + 13 - 13) (put_mid 1 12 (set old 0 0x7E) head) load) ≡ frame_chars address command info ++ drop (n + 18) old
 unfolding frame_chars
@@ -120,17 +119,16 @@ chars_length address command info =
     omega (arith, hexed_length (head_bytes address command (2 * length info)), hexed_length info, hexed_length sum)
 
 -- what the writer knows where it does not refuse
-pub record Fits (len places : ℕ) : Type 0 where
+pub record Fits (len places n : ℕ) : Type 0 where
+  pub size : n ≡ 2 * len + 18
   pub short : len ≤ 2047
   pub room : 2 * len + 18 ≤ places
 
-pub framed_says : (len places n : ℕ) (w : Written) → w ≡ framed_as len places → w ≡ Frame n → Fits len places
+pub framed_says : (len places n : ℕ) (w : Result ℕ Refusal) → w ≡ framed_as len places → w ≡ Ok n → Fits len places n
 framed_says len places n w e f =
     let h = sym f ∙ e in
     record {
+      size = (frame_says (over_long 2047 len) (2 * len + 18) places n h).1.0;
       short = short_says 2047 len (2 * len + 18) places n h;
       room = (frame_says (over_long 2047 len) (2 * len + 18) places n h).1.1;
     }
-
-pub framed_is : (len places n : ℕ) (w : Written) → w ≡ framed_as len places → w ≡ Frame n → w ≡ Frame (2 * len + 18)
-framed_is len places n w e f = f ∙ ap Frame (frame_says (over_long 2047 len) (2 * len + 18) places n (sym f ∙ e)).1.0

@@ -1,11 +1,11 @@
 -- The characters of a PACE frame that is written, and what its writer answers (01, PACE; 01, Refusal numbers: 8, 11).
 -- Assumes nothing.
-use Rattle.std.specs.Prelude.{List, [], ◌∷◌, ◌++◌, ℕ, ◌+◌, ◌*◌, length, take, drop}
+use Rattle.std.specs.Prelude.{List, [], ◌∷◌, ◌++◌, Result, ℕ, ◌+◌, ◌*◌, length, take, drop}
 use Rattle.sums.specs.Sums.{total, closing}
 use Rattle.lengths_pace.specs.Lengths.{length_word}
 use Rattle.numbers.specs.declared.Order.TheVariants.{HighFirst}
 use Rattle.numbers.specs.Bytes.{bytes_of}
-use Rattle.refusals.specs.declared.Written.{Written}
+use Rattle.refusals.specs.declared.Refusal.{Refusal}
 use Rattle.refusals.specs.Writing.{written_as, over_long}
 use Rattle.characters_pace.specs.Characters.{hexed}
 
@@ -30,7 +30,7 @@ unfoldable pub frame_chars : ℕ → ℕ → List ℕ → List ℕ
 frame_chars address command info = 0x7E ∷ (body_chars address command info ++ end_chars (body_chars address command info))
 
 -- what its writer answers for a payload of so many bytes: LENGTH, which counts two characters a byte, says 4,095 at most
-abbrev pub framed_as : ℕ → ℕ → Written
+abbrev pub framed_as : ℕ → ℕ → Result ℕ Refusal
 framed_as len places = written_as (over_long 2047 len) (2 * len + 18) places
 
 -- a frame of n characters of INFO that stands at the front, closed

@@ -1,48 +1,53 @@
 // PACE frames written (004; 01, PACE): a payload as characters between the header and CHKSUM. `frames_pace` reads them.
 #![tactic(auto)]
 
-ghost use Rattle.std.specs.Prelude.{◌≡◌, ◌+◌, ◌≤◌, ◌<◌, length};
+ghost use Rattle.std.specs.Prelude.{◌≡◌, ◌++◌, ◌+◌, ◌*◌, ◌≤◌, ◌<◌, length, drop};
 ghost use Rattle.characters_pace.specs.Characters.{hexed};
 ghost use Rattle.refusals.specs.Writing.{room_after};
 ghost use Rattle.frames_written_pace.specs.Written.{head_bytes, end_of, frame_chars, framed_as, sealed};
 
 use frames_pace::{CID1, FIRST, LAST, VERSION};
-use lengths_pace::{Length, length_word};
+use lengths_pace::length_word;
 use lists_written_pace::put_hex;
 use numbers::Order;
 use numbers_written::bytes16;
-use refusals::{Written, refuse};
+use refusals::Refusal;
 use sums::close65536;
 
-// Writes the frame with this address, command and payload to the front of the room; its bytes are characters. The header, then the part for the
-// payload lent to its writer, then the part for CHKSUM and the last mark.
-pub fn write_frame(address: u8, command: u8, info: &[u8], out: &mut [u8]) -> Written
+// Writes the frame with this address, command and payload to the front of the room; its bytes are characters.
+pub fn write_frame(address: u8, command: u8, info: &[u8], out: &mut [u8]) -> Result<usize, Refusal>
     ensures answer { result ≡ framed_as (length info.now) (length out.old) }
     ensures room { out.new ≡ room_after result (frame_chars address command info.now) out.old }
 {
-    let answer = framed(info.len(), out.len());
-    let Written::Frame(_) = answer else {
-        return answer;
-    };
-    let n = 2 * info.len();
-    out[0] = FIRST;
-    put_head(address, command, n as u16, &mut out[1..13]);
-    put_hex(info, &mut out[13..n + 13]);
-    seal(n, out);
-    answer
+    let size = framed(info.len(), out.len())?;
+    put_frame(address, command, info, out);
+    Ok(size)
 }
 
 // What the writer answers: 8 where LENGTH cannot count the payload's characters, 11 where the room is too small.
-fn framed(len: usize, places: usize) -> Written
+#[tactic(auto, unfolding(refusals::specs::Writing::written_as))]
+fn framed(len: usize, places: usize) -> Result<usize, Refusal>
     ensures { result ≡ framed_as len places }
 {
     if 2047 < len {
-        return Written::Refused(refuse(refusals::SHAPE));
+        return Err(Refusal::Shape);
     }
     if places < 2 * len + 18 {
-        return Written::Refused(refuse(refusals::ROOM));
+        return Err(Refusal::Room);
     }
-    Written::Frame(2 * len + 18)
+    Ok(2 * len + 18)
+}
+
+// The frame, where the room holds it. The header, then the part for the payload lent to its writer, then the part for CHKSUM and the last mark.
+fn put_frame(address: u8, command: u8, info: &[u8], out: &mut [u8])
+    requires { (length info.now ≤ 2047) × (2 * length info.now + 18 ≤ length out.old) }
+    ensures { out.new ≡ frame_chars address command info.now ++ drop (2 * length info.now + 18) out.old }
+{
+    let n = 2 * info.len();
+    out[0] = FIRST;
+    put_head(address, command, n as u16, &mut out[1..13]);
+    let _ = put_hex(info, &mut out[13..n + 13]);
+    seal(n, out);
 }
 
 // Version, address, CID1, command and the LENGTH of so many characters.
@@ -50,11 +55,11 @@ fn put_head(address: u8, command: u8, count: u16, out: &mut [u8])
     requires { (count < 4096) × (length out.old ≡ 12) }
     ensures { out.new ≡ hexed (head_bytes address command count) }
 {
-    let Length::Is(word) = length_word(count) else {
+    let Some(word) = length_word(count) else {
         return;
     };
     let size = bytes16(Order::HighFirst, word);
-    put_hex(&[VERSION, address, CID1, command, size[0], size[1]], out);
+    let _ = put_hex(&[VERSION, address, CID1, command, size[0], size[1]], out);
 }
 
 // CHKSUM and the last mark of a frame whose first mark, header and n characters of INFO stand at the front.
@@ -71,6 +76,6 @@ fn put_end(sum: u16, out: &mut [u8])
     requires { length out.old ≡ 5 }
     ensures { out.new ≡ end_of sum }
 {
-    put_hex(&bytes16(Order::HighFirst, sum), &mut out[0..4]);
+    let _ = put_hex(&bytes16(Order::HighFirst, sum), &mut out[0..4]);
     out[4] = LAST;
 }

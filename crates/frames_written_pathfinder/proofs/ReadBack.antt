@@ -11,12 +11,13 @@ use lib.Seq.{take_at, take-add, take_all, take-nil, take-append_seam, get_or-app
 use Rattle.laws.specs.Firsts.{firsts}
 use Rattle.laws.proofs.Fronts.{front}
 use Rattle.checks.specs.Crc.{crc_of}
-use Rattle.frames_pathfinder.specs.declared.Frame.TheVariants.{Whole}
-use Rattle.frames_pathfinder.specs.Reading.{frame_of}
+use Rattle.std.specs.Prelude.{Ok}
+use Rattle.frames_pathfinder.specs.declared.Frame.{Frame}
+use Rattle.frames_pathfinder.specs.Reading.{whole_of, frame_of}
 use Rattle.frames_pathfinder.proofs.Ladder.{whole, whole_parts}
 use Rattle.frames_written_pathfinder.specs.Writing.{head_of, covered_of, end_of, frame_bytes}
 
-pub frame_reads_back : (op : ℕ) (load : List ℕ) → Whole op 3 (length load) ≡ frame_of (frame_bytes op load)
+pub frame_reads_back : (op : ℕ) (load : List ℕ) → Ok (whole_of op 3 (length load)) ≡ frame_of (frame_bytes op load)
 unfolding frame_bytes
 frame_reads_back op load =
     let sum = crc_of (covered_of op load) in
@@ -28,7 +29,7 @@ frame_reads_back op load =
     λ k. let e : n + (2 + k) ≡ length head + k = omega arith in ap (λ (i : ℕ). get_or s i 0) e ∙ get_or-append-add head (end_of sum) k 0 in
     let e : n - 1 ≡ length load = omega arith in
     let told : sum ≡ get_or s (n + 3) 0 + (get_or s (n + 2) 0 + 0 * 256) * 256 = rw (at 0, at 1) (omega arith) in
-    ap (λ (k : ℕ). Whole op 3 k) (sym e)
+    ap (λ (k : ℕ). Ok (whole_of op 3 k)) (sym e)
     ∙ whole s (omega arith) refl n refl long (at 2) sum sum (ap crc_of (sym (take_at (covered_of op load) (end_of sum) (n + 2 - 1) (omega arith)))) told refl
 
 pub payload_back : (op : ℕ) (load : List ℕ) → take (length load) (drop 3 (frame_bytes op load)) ≡ load
@@ -46,11 +47,13 @@ tail_take : (m : ℕ) (s : List ℕ) → drop 1 (take (suc m) s) ≡ take m (dro
 tail_take m [] = sym (take-nil m)
 tail_take m (x ∷ s) = refl
 
-pub frame_writes_back : (s : List ℕ) (op st n : ℕ) → Whole op st n ≡ frame_of s → get_or s (n + 3) 0 < 256 → get_or s (n + 4) 0 < 256
-    → frame_bytes op (take n (drop st s)) ≡ s
+pub frame_writes_back : (s : List ℕ) (f : Frame) → Ok f ≡ frame_of s → get_or s (f.len + 3) 0 < 256 → get_or s (f.len + 4) 0 < 256
+    → frame_bytes f.opcode (take f.len (drop f.start s)) ≡ s
 unfolding frame_bytes firsts
-frame_writes_back s op st n h high low =
-    let p = whole_parts s op st n h in
+frame_writes_back s f h high low =
+    let op = f.opcode in
+    let n = f.len in
+    let p = whole_parts s f h in
     let load = take n (drop 3 s) in
     let size : length load ≡ n = length-take-le n (drop 3 s) (rw length-drop (omega arith)) in
     let head : take 3 s ≡ head_of op (length load) = front s 3 (omega arith) ∙ rw (p.start_mark, p.length_byte, size, p.opcode) in

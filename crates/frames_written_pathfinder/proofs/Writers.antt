@@ -5,14 +5,13 @@ use mathlib.Core.List.{List, ◌∷◌, ◌++◌, append_assoc, append-nil}
 use Prim.Native.Nat.{ℕ, ◌+◌, ◌-◌, ◌≤◌}
 use native.Mathlib.Omega.{arith}
 use borrow.Rule.Slice.PartMut.{put_mid}
-use lib.ListN.{length, take, drop, set, length-append}
+use lib.ListN.{length, take, drop, length-append}
 use lib.Seq.{sets, sets-eq, take_at, drop-append-add, drop-drop, drop-length}
-use Rattle.refusals.specs.declared.Written.{Written}
-use Rattle.refusals.specs.declared.Written.TheVariants.{Frame}
+use Rattle.std.specs.Prelude.{Ok}
 use Rattle.refusals.specs.Writing.{over_long}
 use Rattle.refusals.proofs.Writing.{frame_says, short_says}
 use Rattle.checks.specs.Crc.{crc_of}
-use Rattle.frames_written_pathfinder.specs.Writing.{head_of, covered_of, end_of, frame_bytes, half_as, begun, sealed}
+use Rattle.frames_written_pathfinder.specs.Writing.{head_of, covered_of, end_of, frame_bytes, half_as, sealed}
 
 -- a buffer that is written whole, store by store
 pub all_of : (vs l : List ℕ) → length l ≡ length vs → sets l 0 vs ≡ vs
@@ -25,18 +24,14 @@ pub record Fits (len places : ℕ) : Type 0 where
   pub short : len ≤ 254
   pub room : len + 6 ≤ places
 
-pub half_says : (len places n : ℕ) (w : Written) → w ≡ half_as len places → w ≡ Frame n → Fits len places
-half_says len places n w e f =
-    let h = sym f ∙ e in
+pub half_says : (len places n : ℕ) → Ok n ≡ half_as len places → Fits len places
+half_says len places n h =
     record {
       short = short_says 254 len (len + 6) places n h;
       room = (frame_says (over_long 254 len) (len + 6) places n h).1.1;
     }
 
 module _ (len : ℕ) (out : List ℕ) (room : len + 6 ≤ length out) where
-  pub begun_is : (op : ℕ) → set (set (set out 0 0xFE) 1 (len + 1)) 2 op ≡ begun op len out
-  begun_is op = sets-eq (head_of op len) out 0 (omega arith)
-
   pub sealed_is : (sum : ℕ) (ys : List ℕ) → sum ≡ crc_of (take (len + 3 - 1) (drop 1 out)) → ys ≡ end_of sum
       → put_mid (len + 3) (len + 6 - (len + 3)) out ys ≡ sealed len out
   sealed_is sum ys e y =

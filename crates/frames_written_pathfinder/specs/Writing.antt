@@ -1,7 +1,7 @@
 -- The bytes of a Pathfinder frame, and what the two halves of its writer make of lent room (000, Serial message format; 01, Pathfinder).
 -- Assumes nothing.
-use Rattle.std.specs.Prelude.{ℕ, ◌+◌, ◌/◌, ◌%◌, List, [], ◌∷◌, ◌++◌, length, take, drop}
-use Rattle.refusals.specs.declared.Written.{Written}
+use Rattle.std.specs.Prelude.{ℕ, ◌+◌, ◌/◌, ◌%◌, List, [], ◌∷◌, ◌++◌, length, take, drop, Result}
+use Rattle.refusals.specs.declared.Refusal.{Refusal}
 use Rattle.refusals.specs.Writing.{written_as, over_long}
 use Rattle.checks.specs.Crc.{crc_of}
 
@@ -22,7 +22,7 @@ unfoldable pub frame_bytes : ℕ → List ℕ → List ℕ
 frame_bytes op load = (0xFE ∷ covered_of op load) ++ end_of (crc_of (covered_of op load))
 
 -- what either half answers for so many bytes of data: the length byte, which counts the opcode too, says 255 at most
-abbrev pub half_as : ℕ → ℕ → Written
+abbrev pub half_as : ℕ → ℕ → Result ℕ Refusal
 half_as len places = written_as (over_long 254 len) (len + 6) places
 
 -- the room with a frame begun in it

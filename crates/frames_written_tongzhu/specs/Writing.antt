@@ -1,7 +1,7 @@
 -- The bytes of a Tongzhu frame, and what the two halves of its writer make of lent room (002, 4; 01, Tongzhu).
 -- Assumes nothing.
-use Rattle.std.specs.Prelude.{ℕ, ◌+◌, List, [], ◌∷◌, ◌++◌, length, take, drop}
-use Rattle.refusals.specs.declared.Written.{Written}
+use Rattle.std.specs.Prelude.{ℕ, ◌+◌, List, [], ◌∷◌, ◌++◌, length, take, drop, Result}
+use Rattle.refusals.specs.declared.Refusal.{Refusal}
 use Rattle.refusals.specs.Writing.{written_as, over_long}
 use Rattle.sums.specs.Sums.{total, closing}
 
@@ -22,7 +22,7 @@ unfoldable pub frame_bytes : ℕ → List ℕ → List ℕ
 frame_bytes f load = body_of f load ++ end_of (body_of f load)
 
 -- what either half answers for so many bytes of payload: LEN, which counts the whole frame, is 255 at most
-abbrev pub half_as : ℕ → ℕ → Written
+abbrev pub half_as : ℕ → ℕ → Result ℕ Refusal
 half_as len places = written_as (over_long 249 len) (len + 6) places
 
 -- the room with a frame begun in it

@@ -5,14 +5,14 @@ ghost use Rattle.std.specs.Prelude.{◌≡◌};
 ghost use Rattle.layouts_pace.specs.Settings.{layout_of, values_of};
 
 // What can be read and written.
-#[derive(Clone, Copy)]
+#[derive(Clone, Copy, Debug, PartialEq, Eq)]
 pub enum Setting {
     Overvoltage,
     Discharge,
 }
 
 // How a setting is read and written.
-#[derive(Clone, Copy)]
+#[derive(Clone, Copy, Debug, PartialEq, Eq)]
 pub struct Layout {
     // The commands that read and write it.
     pub reads: u8,
@@ -65,7 +65,7 @@ pub fn layout_of(setting: Setting) -> Layout
 }
 
 // The values of a setting, by name.
-#[derive(Clone, Copy)]
+#[derive(Clone, Copy, Debug, PartialEq, Eq)]
 pub enum Values {
     CellOvervoltage {
         alarm_mv: u16,

@@ -8,7 +8,7 @@ use lib.Dec.{lit<}
 use Rattle.laws.specs.Choice.{pick}
 use Rattle.sums.specs.Sums.{closing, closes}
 use Rattle.sums.proofs.Closing.{closing_lt, test_closing, test_only}
-use Rattle.lengths_pace.specs.declared.Length.TheVariants.{Is, Wrong}
+use Rattle.std.specs.Prelude.{Some, None}
 use Rattle.lengths_pace.specs.Lengths.{low_digits, length_word, count_of}
 
 -- a word is its top digit and the rest: the low digits of the word are those of the rest
@@ -26,23 +26,23 @@ module _ (d n : ℕ) (hd : d < 16) (hn : n < 4096) where
   rest : (d * 4096 + n) % 4096 ≡ n
   rest = omega arith
 
-pub count_reads_back : (n : ℕ) → n < 4096 → count_of (length_word n) ≡ Is n
+pub count_reads_back : (n : ℕ) → n < 4096 → count_of (length_word n) ≡ Some n
 unfolding count_of
 count_reads_back n h =
     let d = closing 16 (low_digits n) in
     let hd : d < 16 = closing_lt 16 (lit< tt) (low_digits n) in
     let right : closes 16 (low_digits (length_word n)) (length_word n / 4096 % 16) ≡ true =
     ap₂ (closes 16) (low_same d n hd h) (top d n hd h) ∙ test_closing 16 (lit< tt) (low_digits n) in
-    ap₂ (λ (b : Bool) (k : ℕ). pick b (Is k) Wrong) right (rest d n hd h)
+    ap₂ (λ (b : Bool) (k : ℕ). pick b (Some k) None) right (rest d n hd h)
 
 whole : (w n : ℕ) → w < 65536 → w % 4096 ≡ n → w / 4096 % 16 * 4096 + n ≡ w
 whole w n h k = omega arith
 
-pub word_writes_back : (w n : ℕ) → w < 65536 → count_of w ≡ Is n → length_word n ≡ w
+pub word_writes_back : (w n : ℕ) → w < 65536 → count_of w ≡ Some n → length_word n ≡ w
 unfolding count_of
 word_writes_back w n h e = go (closes 16 (low_digits w) (w / 4096 % 16)) refl e
   where
-    go : (b : Bool) → closes 16 (low_digits w) (w / 4096 % 16) ≡ b → pick b (Is (w % 4096)) Wrong ≡ Is n → length_word n ≡ w
+    go : (b : Bool) → closes 16 (low_digits w) (w / 4096 % 16) ≡ b → pick b (Some (w % 4096)) None ≡ Some n → length_word n ≡ w
     go true t p =
         let k : w % 4096 ≡ n = cc in
         let split : w ≡ w / 4096 * 4096 + w % 4096 = omega arith in
@@ -51,4 +51,4 @@ word_writes_back w n h e = go (closes 16 (low_digits w) (w / 4096 % 16)) refl e
         let digit : w / 4096 % 16 ≡ closing 16 (low_digits n) =
         test_only 16 (lit< tt) (low_digits n) (w / 4096 % 16) (omega arith) (ap (λ (x : ℕ). closes 16 x (w / 4096 % 16)) (sym low) ∙ t) in
         ap (λ (x : ℕ). x * 4096 + n) (sym digit) ∙ whole w n h k
-    go false t p = let z : ◌≡◌ {A = ℕ} 0 1 = cc in absurd (omega arith)
+    go false t p = absurd cc

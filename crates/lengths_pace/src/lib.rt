@@ -4,34 +4,29 @@
 ghost use Rattle.std.specs.Prelude.{◌≡◌};
 ghost use Rattle.lengths_pace.specs.Lengths.{word_of, count_of};
 
-// A LENGTH word or a count of characters, or none where there is no right one.
-#[derive(Drop)]
-pub enum Length {
-    Is(u16),
-    Wrong,
-}
-
-// The LENGTH word of a count of characters, at most 4,095.
-pub fn length_word(count: u16) -> Length
+// The LENGTH word of a count of characters, if that is at most 4,095.
+#[tactic(auto, unfolding(crate::specs::Lengths::word_of))]
+pub fn length_word(count: u16) -> Option<u16>
     ensures { result ≡ word_of count }
 {
     if count < 4096 {
         let sum = count / 256 % 16 + count / 16 % 16 + count % 16;
-        Length::Is((16 - sum % 16) % 16 * 4096 + count)
+        Some((16 - sum % 16) % 16 * 4096 + count)
     } else {
-        Length::Wrong
+        None
     }
 }
 
 // The count of characters in a LENGTH word, if its top digit is right.
-pub fn length_count(word: u16) -> Length
+#[tactic(auto, unfolding(crate::specs::Lengths::count_of))]
+pub fn length_count(word: u16) -> Option<u16>
     ensures { result ≡ count_of word }
 {
     let sum = word / 256 % 16 + word / 16 % 16 + word % 16;
     let digit = word / 4096 % 16;
     if (sum + digit) % 16 == 0 {
-        Length::Is(word % 4096)
+        Some(word % 4096)
     } else {
-        Length::Wrong
+        None
     }
 }

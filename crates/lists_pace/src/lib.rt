@@ -12,10 +12,8 @@ pub fn bytes_of(s: &[u8], at: u8, row: &mut [u8])
     ensures { row.new ≡ bytes_at at (length row.old) (bytes_in s.now) }
 {
     let from = at as usize;
-    let mut i = 0;
-    while i < row.len() {
-        row[i] = byte_of(s, from + i);
-        i += 1;
+    for (i, place) in row.iter_mut().enumerate() {
+        *place = byte_of(s, from + i);
     }
 }
 
@@ -24,9 +22,7 @@ pub fn words_of(s: &[u8], at: u8, row: &mut [u16])
     ensures { row.new ≡ words_at at (length row.old) (bytes_in s.now) }
 {
     let from = at as usize;
-    let mut i = 0;
-    while i < row.len() {
-        row[i] = word_of(s, from + 2 * i);
-        i += 1;
+    for (i, place) in row.iter_mut().enumerate() {
+        *place = word_of(s, from + 2 * i);
     }
 }

@@ -2,13 +2,12 @@
 -- Assumes nothing.
 use mathlib.Core.Path.{◌≡◌, refl, sym, ap, ap₂, ◌∙◌}
 use mathlib.Core.List.{List, [], ◌∷◌, ◌++◌, append_assoc, append-nil}
-use Prim.Native.Nat.{ℕ, ◌+◌, ◌-◌, ◌*◌, ◌<◌, ◌≤◌}
+use Prim.Native.Nat.{ℕ, ◌+◌, ◌*◌, ◌<◌}
 use native.Mathlib.Numerals.{add-one}
 use native.Mathlib.Omega.{arith}
 use lib.IntN.{ℤ, pos}
-use lib.ListN.{length, get_or, take, drop, length-append, drop_of_length-le}
-use lib.Seq.{take-suc, take_at, drop_at, take-length, length-take-le, drop-drop}
-use borrow.Rule.Slice.PartMut.{put_mid}
+use lib.ListN.{length, get_or, take, drop, length-append}
+use lib.Seq.{take-suc, take_at, drop_at, length-take-le, drop-drop}
 use Rattle.words_pathfinder.specs.Words.{bytes_of_word}
 use Rattle.lists_pathfinder.specs.Lists.{bytes_of_words, one_at}
 
@@ -30,17 +29,6 @@ bytes_more vs i h =
     ∙ bytes_append (take i vs) (get_or vs i (pos 0) ∷ [])
     ∙ ap (λ (l : List ℕ). bytes_of_words (take i vs) ++ l) (append-nil (bytes_of_word (get_or vs i (pos 0))))
 
--- a copy that fills all there is
-pub copied : (src old : List ℕ) → length old ≤ length src → take (length src) src ++ drop (length src) old ≡ src
-copied src old h = ap₂ (λ (l r : List ℕ). l ++ r) (take-length src) (drop_of_length-le old h) ∙ append-nil src
-
--- four bytes in the place of as many
-pub part_put : (v : ℤ) (at : ℕ) (b part : List ℕ) → part ≡ bytes_of_word v → put_mid at (at + 4 - at) b part ≡ one_at v at b
-part_put v at b part e =
-    let k : at + 4 - at ≡ 4 = omega arith in
-    ap₂ (λ (n : ℕ) (l : List ℕ). put_mid at n b l) k e
-    ∙ ap (λ (l : List ℕ). take at b ++ (bytes_of_word v ++ l)) (drop-drop 4 at b)
-
 module _ (vs : List ℤ) (b : List ℕ) where
   pub none_put : b ≡ bytes_of_words (take 0 vs) ++ drop (4 * 0) b
   unfolding bytes_of_words
@@ -61,8 +49,3 @@ module _ (vs : List ℤ) (b : List ℕ) where
       ∙ ap₂ (λ (l r : List ℕ). l ++ (bytes_of_word v ++ r)) (take_at front rest (4 * i) size) tail
       ∙ sym (append_assoc front (bytes_of_word v) (drop (4 * (i + 1)) b))
       ∙ ap (λ (l : List ℕ). l ++ drop (4 * (i + 1)) b) (sym (bytes_more vs i h))
-
-  pub all_put : (row : List ℕ) (i : ℕ) → row ≡ bytes_of_words (take i vs) ++ drop (4 * i) b → i ≡ length vs → row ≡ bytes_of_words vs ++ drop (4 * length vs) b
-  all_put row i e k =
-      e ∙ ap (λ (n : ℕ). bytes_of_words (take n vs) ++ drop (4 * n) b) k
-      ∙ ap (λ (l : List ℤ). bytes_of_words l ++ drop (4 * length vs) b) (take-length vs)

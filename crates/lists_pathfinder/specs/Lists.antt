@@ -1,9 +1,10 @@
 -- Words one after the other, four bytes for each (000, Serial message format): read into a row, and put at the front of some room.
 -- Assumes nothing.
-use Rattle.std.specs.Prelude.{ℕ, ◌+◌, ◌*◌, List, [], ◌∷◌, ◌++◌, eqb, ltb, ℤ, length, get_or, take, drop}
+use Rattle.std.specs.Prelude.{ℕ, ◌+◌, ◌*◌, List, [], ◌∷◌, ◌++◌, eqb, ltb, ℤ, length, get_or, take, drop, Result, Ok, Err}
 use Rattle.laws.specs.Choice.{pick}
 use Rattle.laws.specs.Firsts.{firsts}
-use Rattle.refusals.specs.Refused.{shape, room}
+use Rattle.refusals.specs.declared.Refusal.{Refusal}
+use Rattle.refusals.specs.declared.Refusal.TheVariants as refusal
 use Rattle.words_pathfinder.specs.Words.{word_of, bytes_of_word}
 
 -- ---- read
@@ -17,8 +18,8 @@ abbrev pub words : ℕ → List ℕ → List ℤ
 words n s = firsts (word_at s) n
 
 -- bytes that are to fill a row: 8 where they are not four for each place
-abbrev pub read_fault : List ℕ → List ℤ → ℕ
-read_fault s row = pick (eqb (length s) (4 * length row)) 0 shape
+abbrev pub read_fault : List ℕ → List ℤ → Result Unit Refusal
+read_fault s row = pick (eqb (length s) (4 * length row)) (Ok tt) (Err refusal.Shape)
 
 -- the row afterwards
 abbrev pub row_read : List ℕ → List ℤ → List ℤ
@@ -32,8 +33,8 @@ bytes_of_words [] = []
 bytes_of_words (v ∷ vs) = bytes_of_word v ++ bytes_of_words vs
 
 -- words that are to be put at the front of some room: 11 where it is too small
-abbrev pub put_fault : List ℤ → List ℕ → ℕ
-put_fault row out = pick (ltb (length out) (4 * length row)) room 0
+abbrev pub put_fault : List ℤ → List ℕ → Result Unit Refusal
+put_fault row out = pick (ltb (length out) (4 * length row)) (Err refusal.Room) (Ok tt)
 
 -- the room afterwards: bytes past those of the words keep their contents
 abbrev pub bytes_put : List ℤ → List ℕ → List ℕ

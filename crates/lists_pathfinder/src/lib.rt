@@ -5,44 +5,40 @@
 ghost use Rattle.std.specs.Prelude.{◌≡◌, ◌++◌, ◌+◌, ◌*◌, ◌≤◌, length, drop};
 ghost use Rattle.lists_pathfinder.specs.Lists.{words, bytes_of_words, read_fault, row_read, put_fault, bytes_put, one_at};
 
+use refusals::Refusal;
 use words_pathfinder::{word, word_bytes};
 
-// Fills the row with the words that the bytes are, all of them. Answers 0, or 8 where they are not as many; the row then keeps its contents.
-pub fn read_words(s: &[u8], row: &mut [i32]) -> u8
+// Fills the row with the words that the bytes are, all of them. Where they are not as many it is refused with 8, and the row keeps its contents.
+pub fn read_words(s: &[u8], row: &mut [i32]) -> Result<(), Refusal>
     ensures answer { result ≡ read_fault s.now row.old }
     ensures filled { row.new ≡ row_read s.now row.old }
 {
-    if s.len() % 4 != 0 {
-        return refusals::SHAPE;
-    }
-    if s.len() / 4 != row.len() {
-        return refusals::SHAPE;
+    if s.len() % 4 != 0 || s.len() / 4 != row.len() {
+        return Err(Refusal::Shape);
     }
     fill(s, row);
-    0
+    Ok(())
 }
 
-// Puts the bytes of the words at the front of the room. Answers 0, or 11 where it is too small; the room then keeps its contents.
-pub fn put_words(row: &[i32], out: &mut [u8]) -> u8
+// Puts the bytes of the words at the front of the room. Where it is too small it is refused with 11, and keeps its contents.
+pub fn put_words(row: &[i32], out: &mut [u8]) -> Result<(), Refusal>
     ensures answer { result ≡ put_fault row.now out.old }
     ensures filled { out.new ≡ bytes_put row.now out.old }
 {
     if out.len() / 4 < row.len() {
-        return refusals::ROOM;
+        return Err(Refusal::Room);
     }
     put_all(row, out);
-    0
+    Ok(())
 }
 
 fn fill(s: &[u8], row: &mut [i32])
     requires { 4 * length row.old ≤ length s.now }
     ensures { row.new ≡ words (length row.old) s.now }
 {
-    let mut i = 0;
-    while i < row.len() {
+    for (i, place) in row.iter_mut().enumerate() {
         let at = 4 * i;
-        row[i] = word(s[at], s[at + 1], s[at + 2], s[at + 3]);
-        i += 1;
+        *place = word(s[at], s[at + 1], s[at + 2], s[at + 3]);
     }
 }
 
@@ -50,10 +46,8 @@ fn put_all(row: &[i32], out: &mut [u8])
     requires { 4 * length row.now ≤ length out.old }
     ensures { out.new ≡ bytes_of_words row.now ++ drop (4 * length row.now) out.old }
 {
-    let mut i = 0;
-    while i < row.len() {
-        put_at(row[i], 4 * i, out);
-        i += 1;
+    for (i, v) in row.iter().enumerate() {
+        put_at(*v, 4 * i, out);
     }
 }
 

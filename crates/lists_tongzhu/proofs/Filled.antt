@@ -3,12 +3,11 @@
 use mathlib.Core.Path.{◌≡◌, refl, sym, ap, ap₂, ◌∙◌}
 use mathlib.Core.List.{List, [], ◌∷◌, ◌++◌, append_assoc, map, map-append}
 use Prim.Native.Nat.{ℕ, zero, suc, ◌+◌, ◌≤◌}
-use native.Mathlib.Numerals.{add-one}
 use native.Mathlib.Omega.{arith}
 use borrow.Author.Tests.{le-leb}
 use borrow.Rule.Slice.PartMut.{put_mid}
-use lib.IntN.{ℤ, pos}
-use lib.ListN.{length, take, drop, replicate, length-append, length-drop, length-replicate, replicate-append-replicate}
+use lib.IntN.{ℤ}
+use lib.ListN.{length, take, drop, replicate, length-append, length-drop, length-replicate}
 use lib.Seq.{drop-drop}
 use Rattle.laws.specs.Firsts.{firsts}
 use Rattle.laws.proofs.Filling.{part_length}
@@ -20,11 +19,6 @@ pub places_length : {A : Type 0} (k : ℕ) (z : A) (f : ℕ → A) (n : ℕ) →
 places_length k z f n h =
     length-append (firsts f n) (drop n (replicate k z))
     ∙ omega (arith, firsts_length f n, length-drop n (replicate k z), length-replicate k z)
-
--- a row that is filled from the front to n, and had 0 in the places past that
-pub filled_places : (f : ℕ → ℤ) (n i k : ℕ) (before row : List ℤ) → row ≡ firsts f i ++ drop i before → i ≡ n → drop n before ≡ drop n (replicate k (pos 0))
-    → row ≡ places_of k (pos 0) f n
-filled_places f n i k before row filled e past = filled ∙ ap (λ (j : ℕ). firsts f j ++ drop j before) e ∙ ap (λ (rest : List ℤ). firsts f n ++ rest) past
 
 module _ {A B : Type 0} (h : A → B) where
   map_firsts : (f : ℕ → A) (n : ℕ) → map h (firsts f n) ≡ firsts (λ i. h (f i)) n
@@ -47,12 +41,6 @@ part_placed a k row part e h =
     let fits : a + length part ≤ length row = omega arith in
     simp (le-leb _ _ fits)
     (rw e (ap (λ l. take a row ++ (part ++ l)) (drop-drop k a row) ∙ sym (append_assoc (take a row) part (drop (a + k) row))))
-
-pub all_same : {A : Type 0} (z : A) (n : ℕ) → firsts (λ (i : ℕ). z) n ≡ replicate n z
-unfolding firsts
-all_same z zero = refl
-all_same z (suc n) =
-    ap (λ l. l ++ (z ∷ [])) (all_same z n) ∙ replicate-append-replicate n 1 z ∙ ap (λ (k : ℕ). replicate k z) (add-one n)
 
 -- ---- a part of a row lent to a call that fills it
 

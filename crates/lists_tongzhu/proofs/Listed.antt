@@ -2,8 +2,8 @@
 -- Assumes nothing.
 use mathlib.Core.Path.{◌≡◌, ◌∙◌}
 use mathlib.Core.List.{List}
-use Prim.Native.Nat.{ℕ, ◌+◌, ◌*◌, ◌<◌, ◌≤◌}
-use borrow.Author.Tests.{lt-ltb, le-ltb}
+use Prim.Native.Nat.{ℕ, ◌+◌, ◌*◌, ◌≤◌}
+use borrow.Author.Tests.{le-ltb}
 use lib.IntN.{ℤ, pos}
 use lib.ListN.{length, get_or, length-map}
 use Rattle.exports_answers.proofs.Placing.{Sizes}
@@ -30,7 +30,3 @@ module _ (l : Lists) (row : List ℤ) where
   pub listed_all : 80 ≤ length row → placed_lists l row ≡ listed l row
   unfolding listed
   listed_all h = simp (le-ltb _ _ h)
-
-  pub listed_none : length row < 80 → row ≡ listed l row
-  unfolding listed
-  listed_none h = simp (lt-ltb _ _ h)

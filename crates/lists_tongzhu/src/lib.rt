@@ -10,20 +10,21 @@ ghost use Rattle.lists_tongzhu.specs.Lists.{placed_lists, listed};
 
 use monitor3_tongzhu::find_lists;
 use numbers::{Order, number16};
+use refusals::Refusal;
 use signs::signed8;
 
-// Puts the lists of a monitor 3 with this payload into the row, behind the places of its numbers, and answers 0; where the row has fewer than 80
-// places it stays as it was, and 11 is answered.
+// Puts the lists of a monitor 3 with this payload into the row, behind the places of its numbers; where the row has fewer than 80 places it
+// stays as it was, and is refused.
 #[tactic(auto, unfolding(exports_parts::specs::Parts::fit_code, crate::specs::Lists::listed))]
-pub fn put_lists(p: &[u8], row: &mut [i32]) -> u8
+pub fn put_lists(p: &[u8], row: &mut [i32]) -> Result<(), Refusal>
     ensures answer { result ≡ fit_code 12 68 (length row.old) }
     ensures filled { row.new ≡ listed (lists_at p.now 0) row.old }
 {
     if row.len() < 80 {
-        return refusals::ROOM;
+        return Err(Refusal::Room);
     }
     fill(p, row);
-    0
+    Ok(())
 }
 
 #[tactic(auto, using(monitor3_tongzhu::proofs::Shapes::places_within, crate::proofs::Filled::part_room), unfolding(monitor3_tongzhu::specs::Layout::lists_in))]
@@ -45,10 +46,8 @@ fn put_voltages(p: &[u8], from: usize, n: usize, row: &mut [i32])
     ensures { row.new ≡ places_of (length row.old) (pos 0) (λ i. pos (number_at p.now (from + 2 * i))) n }
 {
     clear_past(n, row);
-    let mut i = 0;
-    while i < n {
-        row[i] = number16(Order::LowFirst, p[from + 2 * i], p[from + 2 * i + 1]) as i32;
-        i += 1;
+    for (i, cell) in row[..n].iter_mut().enumerate() {
+        *cell = i32::from(number16(Order::LowFirst, p[from + 2 * i], p[from + 2 * i + 1]));
     }
 }
 
@@ -59,10 +58,8 @@ fn put_flags(p: &[u8], from: usize, n: usize, row: &mut [i32])
     ensures { row.new ≡ places_of (length row.old) (pos 0) (λ i. pos (get_or p.now (from + i) 0)) n }
 {
     clear_past(n, row);
-    let mut i = 0;
-    while i < n {
-        row[i] = p[from + i] as i32;
-        i += 1;
+    for (i, flags) in row[..n].iter_mut().enumerate() {
+        *flags = i32::from(p[from + i]);
     }
 }
 
@@ -73,10 +70,8 @@ fn put_temperatures(p: &[u8], from: usize, n: usize, row: &mut [i32])
     ensures { row.new ≡ places_of (length row.old) (pos 0) (λ i. temperature_at p.now (from + i)) n }
 {
     clear_past(n, row);
-    let mut i = 0;
-    while i < n {
-        row[i] = signed8(p[from + i]) as i32;
-        i += 1;
+    for (i, temperature) in row[..n].iter_mut().enumerate() {
+        *temperature = i32::from(signed8(p[from + i]));
     }
 }
 
@@ -86,17 +81,6 @@ fn clear_past(n: usize, row: &mut [i32])
     ensures { (length row.new ≡ length row.old) × (drop n row.new ≡ drop n (replicate (length row.old) (pos 0))) }
 {
     if n < row.len() {
-        clear(row);
-    }
-}
-
-#[tactic(auto, unfolding(laws::specs::Firsts::firsts))]
-fn clear(row: &mut [i32])
-    ensures { row.new ≡ replicate (length row.old) (pos 0) }
-{
-    let mut i = 0;
-    while i < row.len() {
-        row[i] = 0;
-        i += 1;
+        row.fill(0);
     }
 }

@@ -1,27 +1,25 @@
 // Bytes as PACE characters (01, PACE), written to the front of a lent room.
 #![tactic(auto)]
 
-ghost use Rattle.std.specs.Prelude.{◌≡◌, length};
+ghost use Rattle.std.specs.Prelude.{◌≡◌, length, Ok};
 ghost use Rattle.refusals.specs.Writing.{written_as, room_after};
 ghost use Rattle.characters_pace.specs.Characters.{hexed};
 
 use digits::write_byte;
-use refusals::{Written, refuse};
+use refusals::Refusal;
 
 // Writes the characters of the bytes to the front of the room, if it holds them.
-pub fn put_hex(bytes: &[u8], out: &mut [u8]) -> Written
-    ensures answer { result ≡ written_as 0 (length (hexed bytes.now)) (length out.old) }
+pub fn put_hex(bytes: &[u8], out: &mut [u8]) -> Result<usize, Refusal>
+    ensures answer { result ≡ written_as (Ok tt) (length (hexed bytes.now)) (length out.old) }
     ensures room { out.new ≡ room_after result (hexed bytes.now) out.old }
 {
     if out.len() / 2 < bytes.len() {
-        return Written::Refused(refuse(refusals::ROOM));
+        return Err(Refusal::Room);
     }
-    let mut i = 0;
-    while i < bytes.len() {
-        let pair = write_byte(bytes[i]);
-        out[2 * i] = pair[0];
-        out[2 * i + 1] = pair[1];
-        i += 1;
+    for (i, &byte) in bytes.iter().enumerate() {
+        let [high, low] = write_byte(byte);
+        out[2 * i] = high;
+        out[2 * i + 1] = low;
     }
-    Written::Frame(2 * bytes.len())
+    Ok(2 * bytes.len())
 }

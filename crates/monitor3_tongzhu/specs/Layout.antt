@@ -1,16 +1,13 @@
 -- The fields of function 12 (002, 6.1.3; 01, Tongzhu), wherever in a payload they begin. The definitions take what stands from there on.
 -- Assumes nothing.
-use Rattle.std.specs.Prelude.{ℕ, ◌+◌, ◌*◌, ◌/◌, ◌≤◌, ◌≡◌, Bool, ◌&&◌, List, pos, length, get_or, drop, replicate, leb, eqb}
+use Rattle.std.specs.Prelude.{ℕ, ◌+◌, ◌*◌, ◌/◌, ◌≤◌, ◌≡◌, Bool, ◌&&◌, List, pos, length, get_or, drop, replicate, leb, eqb, Option, Some, None, Result, Ok, Err}
 use Rattle.laws.specs.Choice.{pick}
-use Rattle.refusals.specs.Refused.{refused_with, shape}
-use Rattle.monitor3_tongzhu.specs.declared.Shape.{Shape}
-use Rattle.monitor3_tongzhu.specs.declared.Shape.TheVariants.{Counted, Wrong}
+use Rattle.refusals.specs.declared.Refusal.{Refusal}
+use Rattle.refusals.specs.declared.Refusal.TheVariants as refusal
 use Rattle.monitor3_tongzhu.specs.declared.Counts.{Counts}
 use Rattle.monitor3_tongzhu.specs.declared.Monitor3.{Monitor3}
 use Rattle.monitor3_tongzhu.specs.declared.Lists.{Lists}
 use Rattle.monitor3_tongzhu.specs.declared.Places.{Places}
-use Rattle.monitor3_tongzhu.specs.declared.Found.{Found}
-use Rattle.monitor3_tongzhu.specs.declared.Found.TheVariants.{Read, Refused}
 use Rattle.monitor3_tongzhu.specs.Values.{number_at, current_at, temperature_at, status_at, places_of}
 
 -- bytes of the balanced state: c / 8 rounded up (6.1.3.5)
@@ -26,13 +23,13 @@ shaped n c t m =
 abbrev pub counts_of : ℕ → ℕ → ℕ → Counts
 counts_of c t m = record { cells = c; flags = flag_bytes c; sensors = t; mosfets = m }
 
-abbrev pub judged_shape : ℕ → ℕ → ℕ → ℕ → Shape
-judged_shape n c t m = pick (shaped n c t m) (Counted (counts_of c t m)) Wrong
+abbrev pub judged_shape : ℕ → ℕ → ℕ → ℕ → Option Counts
+judged_shape n c t m = pick (shaped n c t m) (Some (counts_of c t m)) None
 
-abbrev pub with_cells : List ℕ → ℕ → ℕ → Shape
+abbrev pub with_cells : List ℕ → ℕ → ℕ → Option Counts
 with_cells q c t = judged_shape (length q) c t (get_or q (8 + 2 * c + flag_bytes c + t) 0)
 
-unfoldable pub shape_of : List ℕ → Shape
+unfoldable pub shape_of : List ℕ → Option Counts
 shape_of q = with_cells q (get_or q 6 0) (get_or q (7 + 2 * get_or q 6 0 + flag_bytes (get_or q 6 0)) 0)
 
 -- what holds of the counts where there are n bytes in all
@@ -62,15 +59,15 @@ monitor3_of q k = record {
 }
 
 -- a payload of the wrong shape is 8
-abbrev pub found_in : List ℕ → Shape → Found
-found_in q (Counted k) = Read (monitor3_of q k)
-found_in q Wrong = Refused (refused_with shape)
+abbrev pub found_in : List ℕ → Option Counts → Result Monitor3 Refusal
+found_in q (Some k) = Ok (monitor3_of q k)
+found_in q None = Err refusal.Shape
 
-unfoldable pub found_of : List ℕ → Found
+unfoldable pub found_of : List ℕ → Result Monitor3 Refusal
 found_of q = found_in q (shape_of q)
 
 -- the numbers of the fields that stand in the payload p from the place `at` to its end
-unfoldable pub found_at : List ℕ → ℕ → Found
+unfoldable pub found_at : List ℕ → ℕ → Result Monitor3 Refusal
 found_at p at = found_of (drop at p)
 
 -- ---- the lists
@@ -101,9 +98,9 @@ nowhere = record {
   mosfets = 0;
 }
 
-abbrev pub places_in : ℕ → Shape → Places
-places_in at (Counted k) = places_by at k
-places_in at Wrong = nowhere
+abbrev pub places_in : ℕ → Option Counts → Places
+places_in at (Some k) = places_by at k
+places_in at None = nowhere
 
 -- where the lists of the fields stand in p
 unfoldable pub places_at : List ℕ → ℕ → Places

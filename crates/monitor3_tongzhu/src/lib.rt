@@ -7,11 +7,11 @@ ghost use Rattle.monitor3_tongzhu.specs.Values.{number_at, status_at};
 ghost use Rattle.monitor3_tongzhu.specs.Layout.{Shaped, shape_of, monitor3_of, found_of, found_at, nowhere, places_by, places_at};
 
 use numbers::{Order, number16};
-use refusals::{Refusal, refuse};
+use refusals::Refusal;
 use signs::signed16;
 
 // The battery status (6.1.3.1), byte by byte.
-#[derive(Clone, Copy)]
+#[derive(Clone, Copy, Debug, PartialEq, Eq)]
 pub struct Status {
     pub first: u8,
     pub second: u8,
@@ -20,7 +20,7 @@ pub struct Status {
 }
 
 // What function 12 tells (6.1.3), but for its lists.
-#[derive(Clone, Copy)]
+#[derive(Clone, Copy, Debug, PartialEq, Eq)]
 pub struct Monitor3 {
     pub status: Status,
     // In 0.1 A, charging positive.
@@ -37,7 +37,7 @@ pub struct Monitor3 {
 }
 
 // The lists of function 12. Places past a count are 0.
-#[derive(Drop)]
+#[derive(Clone, Copy, Debug, PartialEq, Eq)]
 pub struct Lists {
     // In mV.
     pub cells: [u16; 32],
@@ -48,15 +48,8 @@ pub struct Lists {
     pub mosfets: [i8; 16],
 }
 
-// What stands where the fields of function 12 should be.
-#[derive(Drop)]
-pub enum Found {
-    Read(Monitor3),
-    Refused(Refusal),
-}
-
 // Where in a payload the lists of function 12 stand, and how many values each has; all 0 where the fields are of the wrong shape.
-#[derive(Drop)]
+#[derive(Clone, Copy, Debug, PartialEq, Eq, Default)]
 pub struct Places {
     pub cells_from: usize,
     pub cells: usize,
@@ -69,7 +62,7 @@ pub struct Places {
 }
 
 // How many values each part of function 12 has, and how many bytes its balanced state has.
-#[derive(Drop)]
+#[derive(Clone, Copy, Debug, PartialEq, Eq)]
 struct Counts {
     cells: usize,
     flags: usize,
@@ -77,62 +70,25 @@ struct Counts {
     mosfets: usize,
 }
 
-#[derive(Drop)]
-enum Shape {
-    Counted(Counts),
-    Wrong,
-}
-
 // Reads the numbers of the fields of function 12 that take all of a payload from the place `at` on.
-#[tactic(auto, using(crate::proofs::Shapes::from_there, crate::proofs::Shapes::found_beyond), unfolding(crate::specs::Layout::found_at))]
-pub fn read_numbers(p: &[u8], at: usize) -> Found
+#[tactic(auto, using(crate::proofs::Shapes::counted_shaped, crate::proofs::Shapes::from_there, crate::proofs::Shapes::found_beyond), unfolding(crate::specs::Layout::found_at, crate::specs::Layout::found_of))]
+pub fn read_numbers(p: &[u8], at: usize) -> Result<Monitor3, Refusal>
     ensures { result ≡ found_at p.now at }
 {
-    if p.len() < at {
-        return Found::Refused(refuse(refusals::SHAPE));
-    }
-    numbers_of(&p[at..])
+    let q = p.get(at..).ok_or(Refusal::Shape)?;
+    let k = shape_of(q).ok_or(Refusal::Shape)?;
+    Ok(monitor3_of(q, k))
 }
 
-// The numbers of the fields that are the whole of q.
-#[tactic(auto, using(crate::proofs::Shapes::counted_shaped), unfolding(crate::specs::Layout::found_of))]
-fn numbers_of(q: &[u8]) -> Found
-    ensures { result ≡ found_of q.now }
-{
-    let shape = shape_of(q);
-    match shape {
-        Shape::Counted(k) => Found::Read(monitor3_of(q, k)),
-        Shape::Wrong => Found::Refused(refuse(refusals::SHAPE)),
-    }
-}
-
-// Says where their lists stand.
+// Says where their lists stand. Of the wrong shape they have no places, each list of none: what fills them from places has 0 past a count then too, so
+// an Option here would ask of both callers for a second way to say the same.
 #[tactic(auto, using(crate::proofs::Shapes::counted_shaped, crate::proofs::Shapes::from_there, crate::proofs::Shapes::places_beyond), unfolding(crate::specs::Layout::places_at))]
 pub fn find_lists(p: &[u8], at: usize) -> Places
     ensures { result ≡ places_at p.now at }
 {
-    if p.len() < at {
-        return no_places();
-    }
-    let shape = shape_of(&p[at..]);
-    match shape {
-        Shape::Counted(k) => places_by(at, k),
-        Shape::Wrong => no_places(),
-    }
-}
-
-fn no_places() -> Places
-    ensures { result ≡ nowhere }
-{
-    Places {
-        cells_from: 0,
-        cells: 0,
-        balance_from: 0,
-        balance: 0,
-        sensors_from: 0,
-        sensors: 0,
-        mosfets_from: 0,
-        mosfets: 0,
+    match p.get(at..).and_then(shape_of) {
+        Some(k) => places_by(at, k),
+        None => Places::default(),
     }
 }
 
@@ -157,34 +113,24 @@ fn places_by(at: usize, k: Counts) -> Places
 
 // Looks the counts up and tests them against their limits and the number of bytes.
 #[tactic(auto, unfolding(crate::specs::Layout::shape_of))]
-fn shape_of(q: &[u8]) -> Shape
+fn shape_of(q: &[u8]) -> Option<Counts>
     ensures { result ≡ shape_of q.now }
 {
     let cells = count_at(q, 6);
     let flags = (cells + 7) / 8;
     let sensors = count_at(q, 7 + 2 * cells + flags);
     let mosfets = count_at(q, 8 + 2 * cells + flags + sensors);
-    if cells < 1 {
-        return Shape::Wrong;
+    let bytes = 16 + 2 * cells + flags + sensors + mosfets;
+    if 1 <= cells && cells <= 32 && sensors <= 16 && mosfets <= 16 && q.len() == bytes {
+        Some(Counts {
+            cells,
+            flags,
+            sensors,
+            mosfets,
+        })
+    } else {
+        None
     }
-    if 32 < cells {
-        return Shape::Wrong;
-    }
-    if 16 < sensors {
-        return Shape::Wrong;
-    }
-    if 16 < mosfets {
-        return Shape::Wrong;
-    }
-    if q.len() != 16 + 2 * cells + flags + sensors + mosfets {
-        return Shape::Wrong;
-    }
-    Shape::Counted(Counts {
-        cells,
-        flags,
-        sensors,
-        mosfets,
-    })
 }
 
 // The numbers of function 12.
@@ -232,8 +178,5 @@ fn number_at(p: &[u8], i: usize) -> u16
 fn count_at(q: &[u8], i: usize) -> usize
     ensures { (result ≡ get_or q.now i 0) × (result < 256) }
 {
-    if i < q.len() {
-        return q[i] as usize;
-    }
-    0
+    q.get(i).map_or(0, |b| *b as usize)
 }

@@ -7,27 +7,21 @@ ghost use Rattle.numbers.specs.Bytes.{bytes_of};
 use numbers::Order;
 
 // The two bytes of a number.
-pub fn bytes16(order: Order, n: u16) -> [u8; 2]
-    ensures { result ≡ bytes_of order 2 n }
+pub fn bytes16(order: Order, half: u16) -> [u8; 2]
+    ensures { result ≡ bytes_of order 2 half }
 {
-    let low = (n % 256) as u8;
-    let high = (n / 256 % 256) as u8;
     match order {
-        Order::LowFirst => [low, high],
-        Order::HighFirst => [high, low],
+        Order::LowFirst => half.to_le_bytes(),
+        Order::HighFirst => half.to_be_bytes(),
     }
 }
 
 // The four bytes of a number.
-pub fn bytes32(order: Order, n: u32) -> [u8; 4]
-    ensures { result ≡ bytes_of order 4 n }
+pub fn bytes32(order: Order, word: u32) -> [u8; 4]
+    ensures { result ≡ bytes_of order 4 word }
 {
-    let a = (n % 256) as u8;
-    let b = (n / 256 % 256) as u8;
-    let c = (n / 256 / 256 % 256) as u8;
-    let d = (n / 256 / 256 / 256 % 256) as u8;
     match order {
-        Order::LowFirst => [a, b, c, d],
-        Order::HighFirst => [d, c, b, a],
+        Order::LowFirst => word.to_le_bytes(),
+        Order::HighFirst => word.to_be_bytes(),
     }
 }

@@ -1,14 +1,12 @@
 -- What reading 58 bytes finds: the refusals in the order 1, 4, 5, 9, or the record (01, Refusal numbers; 001, byte 58 and the sign bytes).
 -- Places are the document's byte numbers, counted from 1.
 -- Assumes nothing.
-use Rattle.std.specs.Prelude.{Bool, ◌&&◌, ◌||◌, List, ℕ, ◌%◌, ltb, leb, eqb, length, take}
+use Rattle.std.specs.Prelude.{Bool, ◌&&◌, ◌||◌, List, ℕ, ◌%◌, ltb, leb, eqb, length, take, Result, Ok, Err}
 use Rattle.laws.specs.Choice.{pick}
 use Rattle.sums.specs.Sums.{total}
-use Rattle.refusals.specs.Refused.{refused_with, short, lengths, checksum, range}
-use Rattle.old58.specs.declared.Reading.{Reading}
-use Rattle.old58.specs.declared.Reading.TheVariants.{Whole, Refused as NoRecord}
-use Rattle.old58.specs.declared.Judged.{Judged}
-use Rattle.old58.specs.declared.Judged.TheVariants.{Sound, Refused}
+use Rattle.refusals.specs.declared.Refusal.{Refusal}
+use Rattle.refusals.specs.declared.Refusal.TheVariants as refusal
+use Rattle.old58.specs.declared.Record.{Record}
 use Rattle.parts_old58.specs.Parts.{byte_at}
 use Rattle.old58.specs.Record.{record_of}
 
@@ -26,17 +24,17 @@ ranged s =
 abbrev pub checked : List ℕ → Bool
 checked s = eqb (total (take 57 s) % 256) (byte_at s 58)
 
-unfoldable pub judged_of : List ℕ → Judged
+unfoldable pub judged_of : List ℕ → Result Unit Refusal
 judged_of s =
-    pick (ltb (length s) 58) (Refused (refused_with short))
-    (pick (ltb 58 (length s)) (Refused (refused_with lengths))
+    pick (ltb (length s) 58) (Err refusal.Short)
+    (pick (ltb 58 (length s)) (Err refusal.Length)
     (pick (checked s)
-    (pick (ranged s) Sound (Refused (refused_with range)))
-    (Refused (refused_with checksum))))
+    (pick (ranged s) (Ok tt) (Err refusal.Range))
+    (Err refusal.Checksum)))
 
-abbrev pub read_as : List ℕ → Judged → Reading
-read_as s Sound = Whole (record_of s)
-read_as s (Refused why) = NoRecord why
+abbrev pub read_as : List ℕ → Result Unit Refusal → Result Record Refusal
+read_as s (Ok sound) = Ok (record_of s)
+read_as s (Err why) = Err why
 
-unfoldable pub reading_of : List ℕ → Reading
+unfoldable pub reading_of : List ℕ → Result Record Refusal
 reading_of s = read_as s (judged_of s)

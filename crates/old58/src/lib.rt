@@ -10,11 +10,11 @@ ghost use Rattle.old58.specs.Read.{sign_known, ranged, judged_of, reading_of};
 use parts_old58::{
     Cell, Energy, Extremes, Pack, Setup, cell_of, energy_of, extremes_of, pack_of, setup_of,
 };
-use refusals::{Refusal, refuse};
+use refusals::Refusal;
 use sums::sum256;
 
 // What the monitor says, in the order of the bytes.
-#[derive(Drop)]
+#[derive(Clone, Copy, Debug, PartialEq, Eq)]
 pub struct Record {
     pub pack: Pack,
     pub extremes: Extremes,
@@ -23,54 +23,38 @@ pub struct Record {
     pub setup: Setup,
 }
 
-#[derive(Drop)]
-pub enum Reading {
-    Whole(Record),
-    Refused(Refusal),
-}
-
-// Whether bytes are a record.
-#[derive(Drop)]
-pub enum Judged {
-    Sound,
-    Refused(Refusal),
-}
-
 // The record in the bytes, or why there is none.
 #[tactic(auto, unfolding(crate::specs::Read::reading_of))]
-pub fn read_record(s: &[u8]) -> Reading
+pub fn read_record(s: &[u8]) -> Result<Record, Refusal>
     ensures { result ≡ reading_of s.now }
 {
-    let judged = judge(s);
-    match judged {
-        Judged::Sound => Reading::Whole(record_of(s)),
-        Judged::Refused(why) => Reading::Refused(why),
-    }
+    judge(s)?;
+    Ok(record_of(s))
 }
 
 // Whether the bytes are a record, or why they are none. Who wants its parts one by one reads them after it. All tests of 58 bytes are made
 // before the first of them refuses: their order is that of the refusals alone.
 #[tactic(auto, unfolding(crate::specs::Read::judged_of))]
-pub fn judge(s: &[u8]) -> Judged
+pub fn judge(s: &[u8]) -> Result<(), Refusal>
     ensures { result ≡ judged_of s.now }
 {
     if s.len() < 58 {
-        return Judged::Refused(refuse(refusals::SHORT));
+        return Err(Refusal::Short);
     }
     let sum = front_sum(s);
     let no_more = s.len() <= 58;
     let summed = sum == s[57];
     let ranged = in_range(s);
     if !no_more {
-        return Judged::Refused(refuse(refusals::LENGTH));
+        return Err(Refusal::Length);
     }
     if !summed {
-        return Judged::Refused(refuse(refusals::CHECKSUM));
+        return Err(Refusal::Checksum);
     }
     if !ranged {
-        return Judged::Refused(refuse(refusals::RANGE));
+        return Err(Refusal::Range);
     }
-    Judged::Sound
+    Ok(())
 }
 
 // The sum of all bytes but the last. It is taken before more than 58 bytes are refused: a sum of 57 bytes, no more and no fewer, would be
@@ -89,29 +73,14 @@ fn in_range(s: &[u8]) -> bool
     requires { 58 ≤ length s.now }
     ensures { result ≡ ranged s.now }
 {
-    if !is_sign(s[3]) {
-        return false;
-    }
-    if !is_sign(s[6]) {
-        return false;
-    }
-    if !is_sign(s[9]) {
-        return false;
-    }
-    if 23 < s[47] {
-        return false;
-    }
-    s[48] <= 59
+    is_sign(s[3]) && is_sign(s[6]) && is_sign(s[9]) && s[47] <= 23 && s[48] <= 59
 }
 
 #[tactic(auto, unfolding(crate::specs::Read::sign_known))]
 fn is_sign(b: u8) -> bool
     ensures { result ≡ sign_known b }
 {
-    match b {
-        0x2B | 0x2D | 0x58 => true,
-        _ => false,
-    }
+    matches!(b, 0x2B | 0x2D | 0x58)
 }
 
 #[tactic(auto, unfolding(crate::specs::Record::record_of))]

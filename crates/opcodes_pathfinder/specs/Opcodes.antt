@@ -1,11 +1,11 @@
 -- The opcodes of Pathfinder replies, and what the reply to each request holds (000, Opcode Details; 01, Pathfinder).
 -- Assumes nothing.
-use Rattle.std.specs.Prelude.{ℕ, Bool, ◌||◌, ◌&&◌, leb, eqb}
+use Rattle.std.specs.Prelude.{ℕ, Bool, ◌||◌, ◌&&◌, leb, eqb, Option, Some, None}
 use Rattle.laws.specs.Choice.{pick}
 use Rattle.opcodes_pathfinder.specs.declared.Kind.{Kind}
 use Rattle.opcodes_pathfinder.specs.declared.Kind.TheVariants.{Failure as Fails, Asked, Other}
 use Rattle.opcodes_pathfinder.specs.declared.Shape.{Shape}
-use Rattle.opcodes_pathfinder.specs.declared.Shape.TheVariants.{Words as HasWords, Name as HasName, Nothing, Unlisted}
+use Rattle.opcodes_pathfinder.specs.declared.Shape.TheVariants.{Words as HasWords, Name as HasName, Nothing}
 
 -- the failure opcodes: 20 to 24, 26, 27 and 2D
 unfoldable pub is_failure : ℕ → Bool
@@ -20,10 +20,10 @@ is_listed op = (leb 0x01 op && leb op 0x05) || eqb op 0x0E
 unfoldable pub kind_of : ℕ → ℕ → Kind
 kind_of asked op = pick (is_failure op) (pick (is_listed asked) Fails Other) (pick (is_listed op && eqb op asked) Asked Other)
 
--- 01 three words, 02 fifty, 03 fifty-three, 04 sixteen, 05 a name, 0E nothing
-unfoldable pub shape_of : ℕ → Shape
+-- 01 three words, 02 fifty, 03 fifty-three, 04 sixteen, 05 a name, 0E nothing; no other request is listed
+unfoldable pub shape_of : ℕ → Option Shape
 shape_of asked =
-    pick (eqb asked 0x01) (HasWords 3)
-    (pick (eqb asked 0x02) (HasWords 50)
-    (pick (eqb asked 0x03) (HasWords 53)
-    (pick (eqb asked 0x04) (HasWords 16) (pick (eqb asked 0x05) HasName (pick (eqb asked 0x0E) Nothing Unlisted)))))
+    pick (eqb asked 0x01) (Some (HasWords 3))
+    (pick (eqb asked 0x02) (Some (HasWords 50))
+    (pick (eqb asked 0x03) (Some (HasWords 53))
+    (pick (eqb asked 0x04) (Some (HasWords 16)) (pick (eqb asked 0x05) (Some HasName) (pick (eqb asked 0x0E) (Some Nothing) None)))))

@@ -5,7 +5,7 @@ ghost use Rattle.std.specs.Prelude.{◌≡◌};
 ghost use Rattle.opcodes_pathfinder.specs.Opcodes.{is_listed, kind_of, shape_of};
 
 // What a reply is, by its opcode.
-#[derive(Drop)]
+#[derive(Clone, Copy, Debug, PartialEq, Eq)]
 pub enum Kind {
     Failure,
     // The reply to the request asked.
@@ -15,13 +15,11 @@ pub enum Kind {
 }
 
 // What the reply to a request holds.
-#[derive(Drop)]
+#[derive(Clone, Copy, Debug, PartialEq, Eq)]
 pub enum Shape {
     Words(usize),
     Name,
     Nothing,
-    // There is no such request.
-    Unlisted,
 }
 
 // Sorts a reply to the request `asked` by its opcode.
@@ -53,24 +51,21 @@ pub fn kind_of(asked: u8, opcode: u8) -> Kind
 fn is_listed(asked: u8) -> bool
     ensures { result ≡ is_listed asked }
 {
-    match asked {
-        0x01..=0x05 | 0x0E => true,
-        _ => false,
-    }
+    matches!(asked, 0x01..=0x05 | 0x0E)
 }
 
-// What the reply to a request holds.
+// What the reply to a request holds, where there is such a request.
 #[tactic(auto, unfolding(crate::specs::Opcodes::shape_of))]
-pub fn shape_of(asked: u8) -> Shape
+pub fn shape_of(asked: u8) -> Option<Shape>
     ensures { result ≡ shape_of asked }
 {
     match asked {
-        0x01 => Shape::Words(3),
-        0x02 => Shape::Words(50),
-        0x03 => Shape::Words(53),
-        0x04 => Shape::Words(16),
-        0x05 => Shape::Name,
-        0x0E => Shape::Nothing,
-        _ => Shape::Unlisted,
+        0x01 => Some(Shape::Words(3)),
+        0x02 => Some(Shape::Words(50)),
+        0x03 => Some(Shape::Words(53)),
+        0x04 => Some(Shape::Words(16)),
+        0x05 => Some(Shape::Name),
+        0x0E => Some(Shape::Nothing),
+        _ => None,
     }
 }

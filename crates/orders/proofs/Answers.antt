@@ -1,29 +1,25 @@
--- What a writer answers goes by the first refusal, n, that it found for the size of the frame: the refusal with this number, or there is no fault.
+-- What a writer answers goes by the first refusal that it found for the size of the frame: that refusal, or there is no fault.
 -- By the two tests in their order. Assumes nothing.
-use mathlib.Core.Path.{◌≡◌, refl, sym, ap, ◌∙◌}
+use mathlib.Core.Path.{◌≡◌, refl, ◌∙◌}
 use mathlib.Core.Bool.{Bool, true, false}
 use Prim.Native.Nat.{ℕ}
-use borrow.Author.Tests.{lt-ltb, leb-false, eqb-true}
-use lib.Dec.{ltb, leb, eqb}
-use Rattle.laws.specs.Choice.{pick}
-use Rattle.refusals.specs.declared.Written.TheVariants.{Frame, Refused}
-use Rattle.refusals.specs.Refused.{refused_with, room}
+use borrow.Author.Tests.{lt-ltb, leb-false}
+use lib.Dec.{leb}
+use Rattle.std.specs.Prelude.{Result, Ok, Err}
+use Rattle.refusals.specs.declared.Refusal.{Refusal}
+use Rattle.refusals.specs.declared.Refusal.TheVariants as refusal
 use Rattle.refusals.specs.Writing.{written_as}
 use Rattle.orders.specs.Orders.{writing}
 
-pub refused : (fault size places n : ℕ) → n ≡ writing fault (leb size places) → (n ≡ 0 → ⊥) → Refused (refused_with n) ≡ written_as fault size places
+pub refused : (fault : Result Unit Refusal) (size places : ℕ) (why : Refusal) → Err why ≡ writing fault (leb size places) → Err why ≡ written_as fault size places
 unfolding written_as
-refused fault size places n e h = go (eqb fault 0) (leb size places) refl e
+refused (Ok sound) size places why e = go (leb size places) refl e
   where
-    go : (sound roomy : Bool) → leb size places ≡ roomy → n ≡ pick sound (pick roomy 0 room) fault
-        → Refused (refused_with n) ≡ pick sound (pick (ltb places size) (Refused (refused_with room)) (Frame size)) (Refused (refused_with fault))
-    go false roomy r k = ap (λ (m : ℕ). Refused (refused_with m)) k
-    go true false r k = rw (lt-ltb places size (leb-false size places r), k)
-    go true true r k = absurd (h k)
+    go : (roomy : Bool) → leb size places ≡ roomy → Err why ≡ writing (Ok tt) roomy → Err why ≡ written_as (Ok tt) size places
+    go false r k = let room : why ≡ refusal.Room = cc in rw (lt-ltb places size (leb-false size places r), room)
+    go true r k = absurd cc
+refused (Err own) size places why e = let same : why ≡ own = cc in rw same
 
-pub faultless : (fault n : ℕ) (roomy : Bool) → n ≡ writing fault roomy → n ≡ 0 → fault ≡ 0
-faultless fault n roomy e h = go (eqb fault 0) refl e
-  where
-    go : (sound : Bool) → eqb fault 0 ≡ sound → n ≡ pick sound (pick roomy 0 room) fault → fault ≡ 0
-    go true s k = eqb-true fault 0 s
-    go false s k = sym k ∙ h
+pub faultless : (fault : Result Unit Refusal) (roomy : Bool) → Ok tt ≡ writing fault roomy → fault ≡ Ok tt
+faultless (Ok sound) roomy e = refl
+faultless (Err own) roomy e = absurd cc

@@ -1,44 +1,47 @@
-// The orders in which refusals are given (01, Refusal numbers), each over tests that have been made: the number of the first refusal, or 0.
+// The orders in which refusals are given (01, Refusal numbers), each over tests that have been made: the first refusal, if there is one.
 #![tactic(auto)]
 
 ghost use Rattle.std.specs.Prelude.{◌≡◌};
 ghost use Rattle.orders.specs.Orders.{pace_frame, writing};
 
+use refusals::Refusal;
+
 // The first fault of a PACE frame that is long enough.
-pub fn pace_frame(starts: bool, ends: bool, hex: bool, fits: bool, closes: bool, known: bool) -> u8
+pub fn pace_frame(
+    starts: bool,
+    ends: bool,
+    hex: bool,
+    fits: bool,
+    closes: bool,
+    known: bool,
+) -> Result<(), Refusal>
     ensures { result ≡ pace_frame starts ends hex fits closes known }
 {
     if !starts {
-        return refusals::FIRST_MARK;
+        return Err(Refusal::FirstMark);
     }
     if !ends {
-        return refusals::LAST_MARK;
+        return Err(Refusal::LastMark);
     }
     if !hex {
-        return refusals::CHARACTER;
+        return Err(Refusal::Character);
     }
     if !fits {
-        return refusals::LENGTH;
+        return Err(Refusal::Length);
     }
     if !closes {
-        return refusals::CHECKSUM;
+        return Err(Refusal::Checksum);
     }
     if !known {
-        return refusals::ADDRESS;
+        return Err(Refusal::Address);
     }
-    0
+    Ok(())
 }
 
-// The first refusal of a request that is to be written: its own fault, if it has one, then too little room.
-pub fn writing(fault: u8, roomy: bool) -> u8
-    ensures { result ≡ writing fault roomy }
+// The first refusal of a request that is to be written: its own, if it has one, then too little room.
+pub fn writing(sound: Result<(), Refusal>, roomy: bool) -> Result<(), Refusal>
+    ensures { result ≡ writing sound roomy }
 {
-    let sound = fault == 0;
-    if !sound {
-        return fault;
-    }
-    if !roomy {
-        return refusals::ROOM;
-    }
-    0
+    let fits = roomy.then_some(()).ok_or(Refusal::Room);
+    sound.and(fits)
 }

@@ -1,12 +1,10 @@
 -- The parts of a record of the 58-byte monitor: the table of 001 row by row, at the widths of its byte positions (01, The 58-byte monitor).
 -- Places are the document's byte numbers, counted from 1.
 -- Assumes nothing.
-use Rattle.std.specs.Prelude.{List, [], ◌∷◌, ℕ, ◌+◌, ◌-◌, ◌*◌, eqb, ℤ, pos, neg_ℤ, ◌-ℤ◌, get_or}
+use Rattle.std.specs.Prelude.{List, [], ◌∷◌, ℕ, ◌+◌, ◌-◌, ◌*◌, eqb, ℤ, pos, neg_ℤ, ◌-ℤ◌, get_or, Option, Some, None}
 use Rattle.laws.specs.Choice.{pick}
 use Rattle.numbers.specs.declared.Order.TheVariants.{HighFirst}
 use Rattle.numbers.specs.Bytes.{number_of}
-use Rattle.parts_old58.specs.declared.Current.{Current}
-use Rattle.parts_old58.specs.declared.Current.TheVariants.{Milliamps, Missing}
 use Rattle.parts_old58.specs.declared.Pack.{Pack}
 use Rattle.parts_old58.specs.declared.Extremes.{Extremes}
 use Rattle.parts_old58.specs.declared.Cell.{Cell}
@@ -33,14 +31,14 @@ unfoldable pub degrees_at : List ℕ → ℕ → ℤ
 degrees_at s n = pos (two_at s n) -ℤ pos 276
 
 -- a current of 125 mA a count: + is positive, - negative, X missing whatever the count; another sign is refused before (`ranged`)
-unfoldable pub current_of : ℕ → ℕ → Current
+unfoldable pub current_of : ℕ → ℕ → Option ℤ
 current_of sign n =
-    pick (eqb sign 0x2B) (Milliamps (pos (125 * n)))
-    (pick (eqb sign 0x2D) (Milliamps (neg_ℤ (pos (125 * n))))
-    Missing)
+    pick (eqb sign 0x2B) (Some (pos (125 * n)))
+    (pick (eqb sign 0x2D) (Some (neg_ℤ (pos (125 * n))))
+    None)
 
 -- a sign byte, then the count
-unfoldable pub current_at : List ℕ → ℕ → Current
+unfoldable pub current_at : List ℕ → ℕ → Option ℤ
 current_at s n = current_of (byte_at s n) (two_at s (n + 1))
 
 -- ---- the table

@@ -7,24 +7,17 @@ ghost use Rattle.parts_old58.specs.Parts.{byte_at, two_at, three_at, volts_at, d
 
 use numbers::{Order, number16, number24};
 
-// A current, or missing (sign X).
-#[derive(Clone, Copy)]
-pub enum Current {
-    Milliamps(i32),
-    Missing,
-}
-
-// Bytes 1 to 12.
-#[derive(Drop)]
+// Bytes 1 to 12. A current is missing where its sign is X.
+#[derive(Clone, Copy, Debug, PartialEq, Eq)]
 pub struct Pack {
     pub total_mv: u32,
-    pub current_ma: Current,
-    pub current2_ma: Current,
-    pub current3_ma: Current,
+    pub current_ma: Option<i32>,
+    pub current2_ma: Option<i32>,
+    pub current3_ma: Option<i32>,
 }
 
 // Bytes 13 to 24: the extremes, and in which cell each was met.
-#[derive(Drop)]
+#[derive(Clone, Copy, Debug, PartialEq, Eq)]
 pub struct Extremes {
     pub lowest_mv: u32,
     pub lowest_cell: u8,
@@ -37,7 +30,7 @@ pub struct Extremes {
 }
 
 // Bytes 25 to 31: one cell of so many, and the status bits.
-#[derive(Drop)]
+#[derive(Clone, Copy, Debug, PartialEq, Eq)]
 pub struct Cell {
     pub cell: u8,
     pub cells: u8,
@@ -47,7 +40,7 @@ pub struct Cell {
 }
 
 // Bytes 32 to 47.
-#[derive(Drop)]
+#[derive(Clone, Copy, Debug, PartialEq, Eq)]
 pub struct Energy {
     pub collected_today_wh: u32,
     pub stored_wh: u32,
@@ -58,7 +51,7 @@ pub struct Energy {
 }
 
 // Bytes 48 to 57. The three voltage settings are counts, since step and example of 001 disagree.
-#[derive(Drop)]
+#[derive(Clone, Copy, Debug, PartialEq, Eq)]
 pub struct Setup {
     pub hour: u8,
     pub minute: u8,
@@ -142,10 +135,7 @@ fn byte_at(s: &[u8], byte: usize) -> u8
     requires { 1 ≤ byte }
     ensures { result ≡ byte_at s.now byte }
 {
-    if s.len() < byte {
-        return 0;
-    }
-    s[byte - 1]
+    s.get(byte - 1).copied().unwrap_or(0)
 }
 
 // The number of the two bytes from this one on.
@@ -177,7 +167,7 @@ fn volts_at(s: &[u8], byte: usize) -> u32
     requires { (1 ≤ byte) × (byte ≤ 56) }
     ensures { result ≡ volts_at s.now byte }
 {
-    5 * (two_at(s, byte) as u32)
+    5 * u32::from(two_at(s, byte))
 }
 
 // Two bytes of degrees, 276 above Celsius.
@@ -191,28 +181,22 @@ fn degrees_at(s: &[u8], byte: usize) -> i32
 
 // A sign byte and the two bytes of 125 mA a count behind it.
 #[tactic(auto, unfolding(crate::specs::Parts::current_at))]
-fn current_at(s: &[u8], byte: usize) -> Current
+fn current_at(s: &[u8], byte: usize) -> Option<i32>
     requires { (1 ≤ byte) × (byte ≤ 55) }
     ensures { result ≡ current_at s.now byte }
 {
     current_of(byte_at(s, byte), two_at(s, byte + 1))
 }
 
+// 0 is a current too.
 #[tactic(auto, unfolding(crate::specs::Parts::current_of))]
-fn current_of(sign: u8, count: u16) -> Current
+fn current_of(sign: u8, count: u16) -> Option<i32>
     ensures { result ≡ current_of sign count }
 {
-    let amount = (125 * (count as u32)) as i32;
+    let amount = 125 * i32::from(count);
     match sign {
-        0x2B => measured(amount),
-        0x2D => measured(-amount),
-        _ => Current::Missing,
+        0x2B => Some(amount),
+        0x2D => Some(-amount),
+        _ => None,
     }
-}
-
-// A current that was measured; 0 is one too.
-fn measured(ma: i32) -> Current
-    ensures { result ≡ Current.Milliamps ma }
-{
-    Current::Milliamps(ma)
 }

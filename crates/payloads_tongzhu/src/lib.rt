@@ -1,18 +1,18 @@
 // What the payload of a Tongzhu reply says, by its function: 11, 12, 14, 15 or 30 (002, 5.3 and 6; 01, Tongzhu).
 #![tactic(auto)]
 
-ghost use Rattle.std.specs.Prelude.{◌≡◌, ◌+◌, ◌<◌, ◌≤◌, length, get_or};
+ghost use Rattle.std.specs.Prelude.{Ok, ◌≡◌, ◌+◌, ◌<◌, ◌≤◌, length, get_or};
 ghost use Rattle.monitor3_tongzhu.specs.Layout.{found_at};
 ghost use Rattle.monitor3_tongzhu.specs.Values.{number_at, current_at, status_at};
 ghost use Rattle.payloads_tongzhu.specs.Payloads.{monitor2_of, answer_in, done_of, sized, payload_of};
 
-use monitor3_tongzhu::{Found, Monitor3, Status, read_numbers};
+use monitor3_tongzhu::{Monitor3, Status, read_numbers};
 use numbers::{Order, number16};
-use refusals::{Refusal, refuse};
+use refusals::Refusal;
 use signs::{signed8, signed16};
 
 // What function 11 tells (6.2.3).
-#[derive(Clone, Copy)]
+#[derive(Clone, Copy, Debug, PartialEq, Eq)]
 pub struct Monitor2 {
     pub status: Status,
     // In 0.1 A, charging positive.
@@ -33,7 +33,7 @@ pub struct Monitor2 {
 }
 
 // What a reply says. A monitor 3's lists stand beside it.
-#[derive(Clone, Copy)]
+#[derive(Clone, Copy, Debug, PartialEq, Eq)]
 pub enum Answer {
     Monitor2(Monitor2),
     Monitor3(Monitor3),
@@ -44,12 +44,11 @@ pub enum Answer {
     NotDone,
     // The device could not make sense of the request.
     DeviceError,
-    Refused(Refusal),
 }
 
 // Reads the payload by its function; 7 where this is none of them.
 #[tactic(auto, unfolding(crate::specs::Payloads::payload_of))]
-pub fn read_payload(function: u8, p: &[u8]) -> Answer
+pub fn read_payload(function: u8, p: &[u8]) -> Result<Answer, Refusal>
     ensures { result ≡ payload_of function p.now }
 {
     match function {
@@ -58,19 +57,19 @@ pub fn read_payload(function: u8, p: &[u8]) -> Answer
         0x14 => read_status(p),
         0x15 => read_current(p),
         0x30 => read_done(p),
-        _ => Answer::Refused(refuse(refusals::REQUEST)),
+        _ => Err(Refusal::Request),
     }
 }
 
 // Function 11.
 #[tactic(auto, unfolding(crate::specs::Payloads::sized, crate::specs::Payloads::monitor2_of))]
-fn read_monitor2(p: &[u8]) -> Answer
-    ensures { result ≡ sized 21 p.now (Answer.Monitor2 (monitor2_of p.now)) }
+fn read_monitor2(p: &[u8]) -> Result<Answer, Refusal>
+    ensures { result ≡ sized 21 p.now (Ok (Answer.Monitor2 (monitor2_of p.now))) }
 {
     if p.len() != 21 {
-        return Answer::Refused(refuse(refusals::SHAPE));
+        return Err(Refusal::Shape);
     }
-    Answer::Monitor2(monitor2_of(p))
+    Ok(Answer::Monitor2(monitor2_of(p)))
 }
 
 #[tactic(auto, unfolding(crate::specs::Payloads::monitor2_of))]
@@ -94,25 +93,21 @@ fn monitor2_of(p: &[u8]) -> Monitor2
 }
 
 // Function 12.
-fn read_monitor3(p: &[u8]) -> Answer
+fn read_monitor3(p: &[u8]) -> Result<Answer, Refusal>
     ensures { result ≡ answer_in (found_at p.now 0) }
 {
-    let f = read_numbers(p, 0);
-    match f {
-        Found::Read(m) => Answer::Monitor3(m),
-        Found::Refused(r) => Answer::Refused(r),
-    }
+    Ok(Answer::Monitor3(read_numbers(p, 0)?))
 }
 
 // Function 14.
 #[tactic(auto, unfolding(crate::specs::Payloads::sized))]
-fn read_status(p: &[u8]) -> Answer
-    ensures { result ≡ sized 4 p.now (Answer.Status (status_at p.now 0)) }
+fn read_status(p: &[u8]) -> Result<Answer, Refusal>
+    ensures { result ≡ sized 4 p.now (Ok (Answer.Status (status_at p.now 0))) }
 {
     if p.len() != 4 {
-        return Answer::Refused(refuse(refusals::SHAPE));
+        return Err(Refusal::Shape);
     }
-    Answer::Status(status_of(p))
+    Ok(Answer::Status(status_of(p)))
 }
 
 // The battery status at the front of p.
@@ -130,31 +125,31 @@ fn status_of(p: &[u8]) -> Status
 
 // Function 15.
 #[tactic(auto, unfolding(crate::specs::Payloads::sized))]
-fn read_current(p: &[u8]) -> Answer
-    ensures { result ≡ sized 2 p.now (Answer.Current (current_at p.now 0)) }
+fn read_current(p: &[u8]) -> Result<Answer, Refusal>
+    ensures { result ≡ sized 2 p.now (Ok (Answer.Current (current_at p.now 0))) }
 {
     if p.len() != 2 {
-        return Answer::Refused(refuse(refusals::SHAPE));
+        return Err(Refusal::Shape);
     }
-    Answer::Current(signed16(number_at(p, 0)))
+    Ok(Answer::Current(signed16(number_at(p, 0))))
 }
 
 // Function 30.
 #[tactic(auto, unfolding(crate::specs::Payloads::sized, crate::specs::Payloads::done_of))]
-fn read_done(p: &[u8]) -> Answer
+fn read_done(p: &[u8]) -> Result<Answer, Refusal>
     ensures { result ≡ sized 1 p.now (done_of (get_or p.now 0 0)) }
 {
     if p.len() != 1 {
-        return Answer::Refused(refuse(refusals::SHAPE));
+        return Err(Refusal::Shape);
     }
     match p[0] {
-        0x01 => Answer::Done,
-        0x02 => Answer::NotDone,
-        _ => Answer::Refused(refuse(refusals::RANGE)),
+        0x01 => Ok(Answer::Done),
+        0x02 => Ok(Answer::NotDone),
+        _ => Err(Refusal::Range),
     }
 }
 
-// The number of two bytes at the place i.
+// The number of two bytes at the place i. `monitor3_tongzhu` has its own, and its own status: a call that crates share has no `requires`.
 fn number_at(p: &[u8], i: usize) -> u16
     requires { i + 1 < length p.now }
     ensures { result ≡ number_at p.now i }

@@ -2,18 +2,16 @@
 // device's own failure.
 #![tactic(auto)]
 
-ghost use Rattle.std.specs.Prelude.{◌≡◌, ◌++◌, ◌*◌, ◌≤◌, eqb, length, drop};
-ghost use Rattle.refusals.specs.Refused.{refused_with};
-ghost use Rattle.lists_pathfinder.specs.Lists.{words};
+ghost use Rattle.std.specs.Prelude.{◌≡◌, ◌*◌, eqb, length, Some};
 ghost use Rattle.records_pathfinder.specs.Replies.{words_judged, shaped, judged, reply_of, row_after, name_after};
 
-use frames_pathfinder::{Frame, read_frame};
+use frames_pathfinder::read_frame;
 use lists_pathfinder::read_words;
 use opcodes_pathfinder::{Kind, Shape, kind_of, shape_of};
-use refusals::{Refusal, refuse};
+use refusals::Refusal;
 
 // What a reply says.
-#[derive(Drop)]
+#[derive(Clone, Copy, Debug, PartialEq, Eq)]
 pub enum Reply {
     // So many words stand at the front of the row.
     Words(usize),
@@ -23,113 +21,88 @@ pub enum Reply {
     Written,
     // The device failed, with its own code.
     Failure(u8),
-    Refused(Refusal),
 }
 
 // Reads the reply to the request `asked`. Places of `row` and `name` past what is written keep their contents.
-pub fn read_reply(asked: u8, s: &[u8], row: &mut [i32], name: &mut [u8]) -> Reply
+#[tactic(auto, using(crate::proofs::Answers::words_fit, crate::proofs::Answers::name_fit, crate::proofs::Filled::part_payload), unfolding(crate::specs::Replies::reply_of))]
+pub fn read_reply(asked: u8, s: &[u8], row: &mut [i32], name: &mut [u8]) -> Result<Reply, Refusal>
     ensures answer { result ≡ reply_of asked (length row.old) (length name.old) s.now }
     ensures filled { row.new ≡ row_after result s.now row.old }
     ensures copied { name.new ≡ name_after result s.now name.old }
 {
-    let f = read_frame(s);
-    match f {
-        Frame::Refused(r) => Reply::Refused(r),
-        Frame::Whole { opcode, start, len } => {
-            let v = judge(asked, opcode, len, row.len(), name.len());
-            match v {
-                Reply::Words(n) => {
-                    fill(&s[start..start + len], row, n);
-                    Reply::Words(n)
-                }
-                Reply::Name(n) => {
-                    name[..len].copy_from_slice(&s[start..start + len]);
-                    Reply::Name(n)
-                }
-                Reply::Written => Reply::Written,
-                Reply::Failure(code) => Reply::Failure(code),
-                Reply::Refused(r) => Reply::Refused(r),
-            }
-        }
+    let frame = read_frame(s)?;
+    let reply = judge(asked, frame.opcode, frame.len, row.len(), name.len())?;
+    let data = &s[frame.start..frame.start + frame.len];
+    match reply {
+        Reply::Words(n) => read_words(data, &mut row[..n])?,
+        Reply::Name(n) => name[..n].copy_from_slice(data),
+        Reply::Written | Reply::Failure(_) => {}
     }
+    Ok(reply)
 }
 
 // What a whole frame says, by its opcode and the length of its data, with so much room.
-fn judge(asked: u8, opcode: u8, len: usize, words: usize, bytes: usize) -> Reply
+#[tactic(auto, unfolding(crate::specs::Replies::judged))]
+fn judge(asked: u8, opcode: u8, len: usize, words: usize, bytes: usize) -> Result<Reply, Refusal>
     ensures { result ≡ judged asked opcode len words bytes }
 {
-    let kind = kind_of(asked, opcode);
-    match kind {
+    match kind_of(asked, opcode) {
         Kind::Failure => {
             if 0 < len {
-                refused(refusals::SHAPE)
+                Err(Refusal::Shape)
             } else {
-                Reply::Failure(opcode)
+                Ok(Reply::Failure(opcode))
             }
         }
-        Kind::Asked => judge_shape(shape_of(asked), len, words, bytes),
-        Kind::Other => refused(refusals::REQUEST),
+        Kind::Asked => {
+            let shape = shape_of(asked).ok_or(Refusal::Request)?;
+            judge_shape(shape, len, words, bytes)
+        }
+        Kind::Other => Err(Refusal::Request),
     }
 }
 
 // What the asked reply says, by the length of its data.
-fn judge_shape(shape: Shape, len: usize, words: usize, bytes: usize) -> Reply
-    ensures { result ≡ shaped shape len words bytes }
+fn judge_shape(shape: Shape, len: usize, words: usize, bytes: usize) -> Result<Reply, Refusal>
+    ensures { result ≡ shaped (Some shape) len words bytes }
 {
     match shape {
         Shape::Words(n) => judge_words(n, len, words),
         Shape::Name => {
             if bytes < len {
-                refused(refusals::ROOM)
+                Err(Refusal::Room)
             } else {
-                Reply::Name(len)
+                Ok(Reply::Name(len))
             }
         }
         Shape::Nothing => {
             if len == 0 {
-                Reply::Written
+                Ok(Reply::Written)
             } else {
-                refused(refusals::SHAPE)
+                Err(Refusal::Shape)
             }
         }
-        Shape::Unlisted => refused(refusals::REQUEST),
     }
 }
 
-fn judge_words(n: usize, len: usize, room: usize) -> Reply
+#[tactic(auto, unfolding(crate::specs::Replies::words_judged))]
+fn judge_words(n: usize, len: usize, room: usize) -> Result<Reply, Refusal>
     ensures { result ≡ words_judged n len room }
 {
     let sized = is_sized(n, len);
     let roomy = n <= room;
     if !sized {
-        return refused(refusals::SHAPE);
+        return Err(Refusal::Shape);
     }
     if !roomy {
-        return refused(refusals::ROOM);
+        return Err(Refusal::Room);
     }
-    Reply::Words(n)
+    Ok(Reply::Words(n))
 }
 
 // Whether data of so many bytes are n words.
 fn is_sized(n: usize, len: usize) -> bool
     ensures { result ≡ eqb len (4 * n) }
 {
-    if len % 4 != 0 {
-        return false;
-    }
-    len / 4 == n
-}
-
-// The words of the data go to the front of the row.
-fn fill(s: &[u8], row: &mut [i32], n: usize)
-    requires { (n ≤ length row.old) × (length s.now ≡ 4 * n) }
-    ensures { row.new ≡ words n s.now ++ drop n row.old }
-{
-    read_words(s, &mut row[0..n]);
-}
-
-fn refused(number: u8) -> Reply
-    ensures { result ≡ Reply.Refused (refused_with number) }
-{
-    Reply::Refused(refuse(number))
+    len % 4 == 0 && len / 4 == n
 }

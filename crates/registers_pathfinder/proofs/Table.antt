@@ -7,10 +7,11 @@ use Prim.Native.Nat.{ℕ, ◌≤◌}
 use native.Mathlib.Omega.{arith}
 use lib.IntN.{pos}
 use lib.ListN.{get_or-eq_default}
+use Rattle.std.specs.Prelude.{Option, Some, None}
 use Rattle.laws.specs.Every.{every}
 use Rattle.laws.proofs.Tables.{along}
 use Rattle.registers_pathfinder.specs.declared.Register.{Register}
-use Rattle.registers_pathfinder.specs.declared.Register.TheVariants.{U8, I8, U16, I16, U32, Unknown}
+use Rattle.registers_pathfinder.specs.declared.Register.TheVariants.{U8, I8, U16, I16, U32}
 use Rattle.registers_pathfinder.specs.Registers.{minus, registers, register_at, within, is_register}
 
 -- the minimum is no smaller than the type's smallest value, the maximum no larger than its largest, and the one not above the other
@@ -20,9 +21,13 @@ sound (I8 least most) = within (minus 128) most least && within least (pos 127) 
 sound (U16 least most) = within (pos 0) most least && within least (pos 65535) most
 sound (I16 least most) = within (minus 32768) most least && within least (pos 32767) most
 sound (U32 least most) = within (pos 0) most least && within least (pos 4294967295) most
-sound Unknown = true
 
-pub ranges_sound : every 52 (λ r. sound (register_at r)) ≡ true
+-- where there is no register, there is nothing to be sound
+abbrev sound_at : Option Register → Bool
+sound_at (Some x) = sound x
+sound_at None = true
+
+pub ranges_sound : every 52 (λ r. sound_at (register_at r)) ≡ true
 unfolding every registers
 ranges_sound = refl
 
@@ -34,6 +39,6 @@ known r h =
     (λ (b : (48 ≤ r) × (r ≤ 51)). sym (along is_register true 48 4 r refl b.0 (omega (arith, b.1)))) h
 
 -- 47 is reserved, and so unknown, as 52 and above are
-pub unknown : (r : ℕ) → (r ≡ 47) ⊎ (52 ≤ r) → register_at r ≡ Unknown
+pub unknown : (r : ℕ) → (r ≡ 47) ⊎ (52 ≤ r) → register_at r ≡ None
 unfolding registers
-unknown r h = ⊎_elim (λ (e : r ≡ 47). ap register_at e) (λ (b : 52 ≤ r). get_or-eq_default registers Unknown b) h
+unknown r h = ⊎_elim (λ (e : r ≡ 47). ap register_at e) (λ (b : 52 ≤ r). get_or-eq_default registers None b) h

@@ -7,21 +7,18 @@ use lib.IntN.{ℤ, pos, negsuc}
 use lib.Dec.{lit<}
 use lib.Signed.{le_z, mag}
 use borrow.Author.Tests.{leb-true}
+use Rattle.std.specs.Prelude.{Option, Some, None, is_some, Result, Ok, Err}
+use Rattle.refusals.specs.declared.Refusal.{Refusal}
 use Rattle.laws.proofs.Ladders.{both}
 use Rattle.types_pathfinder.specs.declared.RowType.{RowType}
 use Rattle.types_pathfinder.specs.declared.RowType.TheVariants as types
 use Rattle.types_pathfinder.specs.Types.{type_at}
 use Rattle.registers_pathfinder.specs.declared.Register.{Register}
-use Rattle.registers_pathfinder.specs.declared.Register.TheVariants.{U8, I8, U16, I16, U32, Unknown}
-use Rattle.registers_pathfinder.specs.Registers.{register_at, takes, is_known, is_register, in_range, limits_of, fits_type}
+use Rattle.registers_pathfinder.specs.Registers.{register_at, taken_by, is_register, in_range, limits_of, value_of, fits_type}
 
-known : (x : Register) (v : ℤ) → takes x v ≡ true → is_known x ≡ true
-known (U8 least most) v e = refl
-known (I8 least most) v e = refl
-known (U16 least most) v e = refl
-known (I16 least most) v e = refl
-known (U32 least most) v e = refl
-known Unknown v e = e
+known : (x : Option Register) (v : ℤ) → taken_by x v ≡ true → is_some x ≡ true
+known (Some x) v e = refl
+known None v e = e
 
 pub in_range_known : (r : ℕ) (v : ℤ) → in_range r v ≡ true → is_register r ≡ true
 unfolding in_range is_register
@@ -48,13 +45,15 @@ limits_small types.Bool = (lit< tt, lit< tt)
 limits_small types.TenMillivolts = (lit< tt, lit< tt)
 limits_small types.Bits = (lit< tt, lit< tt)
 limits_small types.Count = (lit< tt, lit< tt)
-limits_small types.NoRow = (lit< tt, lit< tt)
-limits_small types.NoReply = (lit< tt, lit< tt)
+
+value_word : (k : Result RowType Refusal) (v : ℤ) → value_of k v ≡ true → mag v < 2147483648
+value_word (Ok kind) v e =
+    let limits = limits_of kind in
+    let b = both (le_z limits.0 v) (le_z v limits.1) e in
+    let s = limits_small kind in
+    between_words limits.0 v limits.1 2147483648 b.0 b.1 s.0 s.1
+value_word (Err why) v e = absurd cc
 
 pub fits_word : (n : ℕ) (v : ℤ) → fits_type n v ≡ true → mag v < 2147483648
 unfolding fits_type
-fits_word n v e =
-    let limits = limits_of (type_at 0x02 n) in
-    let b = both (le_z limits.0 v) (le_z v limits.1) e in
-    let s = limits_small (type_at 0x02 n) in
-    between_words limits.0 v limits.1 2147483648 b.0 b.1 s.0 s.1
+fits_word n v e = value_word (type_at 0x02 n) v e

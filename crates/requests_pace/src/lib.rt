@@ -3,21 +3,18 @@
 #![tactic(auto)]
 
 ghost use Rattle.std.specs.Prelude.{◌≡◌, length};
-ghost use Rattle.laws.specs.Choice.{pick};
-ghost use Rattle.refusals.specs.Refused.{range};
 ghost use Rattle.refusals.specs.Writing.{room_after};
-ghost use Rattle.allowed_pace.specs.Allowed.{allowed_of};
-ghost use Rattle.requests_pace.specs.Request.{kind_of, frame_for, sent_as};
+ghost use Rattle.requests_pace.specs.Request.{kind_of, values_fault, frame_for, sent_as};
 
 use allowed_pace::may_write;
 use commands_pace::{Command, command_of};
 use frames_written_pace::write_frame;
 use layouts_pace::{Setting, Values};
 use orders::writing;
-use refusals::{Written, refuse};
+use refusals::Refusal;
 use writes_pace::info_of;
 
-#[derive(Drop)]
+#[derive(Clone, Copy, Debug, PartialEq, Eq)]
 pub enum Request {
     // A request without values.
     Ask { address: u8, command: u8 },
@@ -26,7 +23,7 @@ pub enum Request {
 }
 
 // What a command's request carries.
-#[derive(Drop)]
+#[derive(Clone, Copy, Debug, PartialEq, Eq)]
 pub enum Kind {
     // The address as its one byte.
     Addressed,
@@ -34,25 +31,24 @@ pub enum Kind {
     Bare,
     // The values of a setting.
     Carries(Setting),
-    Unlisted,
 }
 
-pub fn kind_of(command: Command) -> Kind
+// None of a command that is not listed.
+pub fn kind_of(command: Option<Command>) -> Option<Kind>
     ensures { result ≡ kind_of command }
 {
-    match command {
-        Command::Analog => Kind::Addressed,
-        Command::Warnings => Kind::Addressed,
-        Command::Hardware => Kind::Bare,
-        Command::Serial => Kind::Bare,
-        Command::Reads(_) => Kind::Bare,
-        Command::Writes(setting) => Kind::Carries(setting),
-        Command::Unlisted => Kind::Unlisted,
+    match command? {
+        Command::Analog => Some(Kind::Addressed),
+        Command::Warnings => Some(Kind::Addressed),
+        Command::Hardware => Some(Kind::Bare),
+        Command::Serial => Some(Kind::Bare),
+        Command::Reads(_) => Some(Kind::Bare),
+        Command::Writes(setting) => Some(Kind::Carries(setting)),
     }
 }
 
 // Writes a request's frame at the front of the room; bytes after it keep their contents, and a refusal changes nothing.
-pub fn write_request(q: Request, out: &mut [u8]) -> Written
+pub fn write_request(q: Request, out: &mut [u8]) -> Result<usize, Refusal>
     ensures answer { result ≡ sent_as q (length out.old) }
     ensures room { out.new ≡ room_after result (frame_for q) out.old }
 {
@@ -62,42 +58,34 @@ pub fn write_request(q: Request, out: &mut [u8]) -> Written
     }
 }
 
-fn write_ask(address: u8, command: u8, out: &mut [u8]) -> Written
+fn write_ask(address: u8, command: u8, out: &mut [u8]) -> Result<usize, Refusal>
     ensures answer { result ≡ sent_as (Request.Ask address command) (length out.old) }
     ensures room { out.new ≡ room_after result (frame_for (Request.Ask address command)) out.old }
 {
     let info = [address];
-    let k = kind_of(command_of(command));
-    match k {
-        Kind::Addressed => write_frame(address, command, &info[0..1], out),
-        Kind::Bare => write_frame(address, command, &info[0..0], out),
-        Kind::Carries(_) => Written::Refused(refuse(refusals::SHAPE)),
-        Kind::Unlisted => Written::Refused(refuse(refusals::REQUEST)),
+    match kind_of(command_of(command)) {
+        Some(Kind::Addressed) => write_frame(address, command, &info[0..1], out),
+        Some(Kind::Bare) => write_frame(address, command, &info[0..0], out),
+        Some(Kind::Carries(_)) => Err(Refusal::Shape),
+        None => Err(Refusal::Request),
     }
 }
 
 // `write_frame` would refuse too little room as well; it is asked for here so that the order of the refusals is that of `writing`.
-fn write_values(address: u8, values: Values, out: &mut [u8]) -> Written
+fn write_values(address: u8, values: Values, out: &mut [u8]) -> Result<usize, Refusal>
     ensures answer { result ≡ sent_as (Request.Set address values) (length out.old) }
     ensures room { out.new ≡ room_after result (frame_for (Request.Set address values)) out.old }
 {
-    let fault = fault_of_values(values);
     let info = info_of(values);
     let bytes = info.bytes;
     let n = info.len;
-    let refused = writing(fault, 2 * n + 18 <= out.len());
-    if refused != 0 {
-        return Written::Refused(refuse(refused));
-    }
+    writing(check_values(values), 2 * n + 18 <= out.len())?;
     write_frame(address, info.command, &bytes[0..n], out)
 }
 
-// The refusal that values meet before any room is looked at, or 0.
-fn fault_of_values(values: Values) -> u8
-    ensures { result ≡ pick (allowed_of values) 0 range }
+// Why values may not be written, whatever the room, if they may not.
+fn check_values(values: Values) -> Result<(), Refusal>
+    ensures { result ≡ values_fault values }
 {
-    if may_write(values) {
-        return 0;
-    }
-    refusals::RANGE
+    may_write(values).then_some(()).ok_or(Refusal::Range)
 }

@@ -7,8 +7,8 @@ use borrow.Rule.Slice.PartMut.{put_mid}
 use lib.Dec.{leb}
 use lib.IntN.{ℤ}
 use lib.ListN.{length, drop}
-use Rattle.refusals.specs.declared.Written.TheVariants.{Frame, Refused}
-use Rattle.refusals.specs.Refused.{refused_with}
+use Rattle.std.specs.Prelude.{Ok, Err}
+use Rattle.refusals.specs.declared.Refusal.{Refusal}
 use Rattle.refusals.specs.Writing.{written_as}
 use Rattle.refusals.proofs.Writing.{fits}
 use Rattle.orders.specs.Orders.{writing}
@@ -24,17 +24,17 @@ use Rattle.requests_pathfinder.specs.Requests.{opcode_of, load_of, set_load, fra
 pub frame_size : (q : Request) → length (frame_for q) ≡ length (load_of q) + 6
 frame_size q = frame_length (opcode_of q) (load_of q)
 
--- n is the fault, as the writer holds it: there is none
-pub sent : (q : Request) (places n : ℕ) → n ≡ fault_of q → n ≡ 0 → written_as 0 (length (load_of q) + 6) places ≡ sent_as q places
-sent q places n e h = rw (← frame_size q, ← h, e)
+-- there is no fault
+pub sent : (q : Request) (places : ℕ) → Ok tt ≡ fault_of q → written_as (Ok tt) (length (load_of q) + 6) places ≡ sent_as q places
+sent q places sound = rw (← frame_size q, ← sound)
 
--- r is the refusal that it found for this fault and its room
-pub refused : (q : Request) (places n r : ℕ) → n ≡ fault_of q → r ≡ writing n (leb (length (load_of q) + 6) places) → (r ≡ 0 → ⊥) → Refused (refused_with r) ≡ sent_as q places
-refused q places n r e f = orders.refused (fault_of q) (length (frame_for q)) places r (rw (← e, frame_size q) f)
+-- why is the refusal that the writer found for the fault and its room
+pub refused : (q : Request) (places : ℕ) (why : Refusal) → Err why ≡ writing (fault_of q) (leb (length (load_of q) + 6) places) → Err why ≡ sent_as q places
+refused q places why f = orders.refused (fault_of q) (length (frame_for q)) places why (rw (frame_size q) f)
 
 -- a request without fault goes out where there is room
-pub goes_out_lem : (q : Request) (places : ℕ) → fault_of q ≡ 0 → length (load_of q) + 6 ≤ places → Frame (length (load_of q) + 6) ≡ sent_as q places
-goes_out_lem q places sound h = fits 0 (length (load_of q) + 6) places refl h ∙ rw (sound, frame_size q)
+pub goes_out_lem : (q : Request) (places : ℕ) → fault_of q ≡ Ok tt → length (load_of q) + 6 ≤ places → Ok (length (load_of q) + 6) ≡ sent_as q places
+goes_out_lem q places sound h = fits (Ok tt) (length (load_of q) + 6) places refl h ∙ rw (sound, frame_size q)
 
 -- ---- the room
 

@@ -5,7 +5,7 @@ use mathlib.Core.Bool.{Bool, true, false}
 use mathlib.Core.List.{List, [], ◌∷◌}
 use Prim.Native.Nat.{ℕ, zero, suc, ◌+◌, ◌-◌, ◌<◌, ◌≤◌, ◌^◌}
 use native.Mathlib.Omega.{arith}
-use borrow.Author.Tests.{leb-true, eqb-true}
+use borrow.Author.Tests.{leb-true, eqb-true, ne_eqb}
 use lib.Dec.{leb, eqb}
 use lib.ListN.{length, get_or, take, drop}
 use lib.Signed.{mag}
@@ -13,11 +13,11 @@ use Rattle.laws.specs.Choice.{pick}
 use Rattle.laws.specs.Firsts.{firsts}
 use Rattle.laws.proofs.Fronts.{front}
 use Rattle.laws.proofs.Ladders.{into, both}
+use Rattle.std.specs.Prelude.{Result, Ok, Err}
 use Rattle.refusals.specs.declared.Refusal.{Refusal}
-use Rattle.refusals.specs.Refused.{refused_with, shape, request, range, register}
+use Rattle.refusals.specs.declared.Refusal.TheVariants as refusal
 use Rattle.words_pathfinder.proofs.RoundTrip.{word_back, bytes_back}
 use Rattle.frames_pathfinder.specs.declared.Frame.{Frame}
-use Rattle.frames_pathfinder.specs.declared.Frame.TheVariants.{Whole, Refused as NoFrame}
 use Rattle.frames_pathfinder.specs.Reading.{frame_of}
 use Rattle.frames_pathfinder.proofs.Ladder.{whole_parts}
 use Rattle.frames_written_pathfinder.specs.Writing.{frame_bytes}
@@ -28,10 +28,8 @@ use Rattle.words_pathfinder.specs.Words.{word_of}
 use Rattle.records_pathfinder.specs.Replies.{payload_of}
 use Rattle.requests_pathfinder.specs.declared.Request.{Request}
 use Rattle.requests_pathfinder.specs.declared.Request.TheVariants.{Ask, Write}
-use Rattle.requests_pathfinder.specs.Requests.{asks, opcode_of, set_load, load_of, frame_for, fault_of}
-use Rattle.requests_read_pathfinder.specs.declared.Parsed.TheVariants.{Is, Refused}
+use Rattle.requests_pathfinder.specs.Requests.{asks, opcode_of, load_of, frame_for, fault_of}
 use Rattle.requests_read_pathfinder.specs.Reading.{parsed_set, parsed_of, of_frame, request_of}
-use Rattle.requests_read_pathfinder.proofs.Judged.{parsed_ask, parsed_set_lem, set_read, request_whole}
 
 -- the value of a request is one of 32 bits, as every value that a program holds
 abbrev pub Typed : Request → Type 0
@@ -40,25 +38,26 @@ Typed (Write r v) = mag v < 2 ^ 31
 
 -- ---- a written request is read back
 
-right : (a : Bool) (n m : ℕ) → (m ≡ 0 → ⊥) → pick a n m ≡ 0 → (a ≡ true) × (n ≡ 0)
-right true n m h e = (refl, e)
-right false n m h e = absurd (h e)
+not_sound : (why : Refusal) → ◌≡◌ {A = Result Unit Refusal} (Ok tt) (Err why) → ⊥
+not_sound why h = absurd cc
 
-not_zero : (c : Bool) → pick c shape request ≡ 0 → ⊥
-not_zero true h = omega arith
-not_zero false h = omega arith
+not_asked : (c : Bool) → ◌≡◌ {A = Result Unit Refusal} (Ok tt) (pick c (Err refusal.Shape) (Err refusal.Request)) → ⊥
+not_asked true h = absurd cc
+not_asked false h = absurd cc
 
-parsed_back : (q : Request) → Typed q → fault_of q ≡ 0 → parsed_of (opcode_of q) (load_of q) ≡ Is q
-unfolding fault_of
+parsed_back : (q : Request) → Typed q → fault_of q ≡ Ok tt → parsed_of (opcode_of q) (load_of q) ≡ Ok q
+unfolding fault_of parsed_of parsed_set
 parsed_back (Ask op) t e =
-    let a = right (asks op) 0 (pick (eqb op 0x0E) shape request) (not_zero (eqb op 0x0E)) e in
+    let a = into (asks op) _ _ _ (not_asked (eqb op 0x0E)) (sym e) in
     let b = both (leb 1 op) (leb op 5) a.0 in
     let high : op ≤ 5 = leb-true op 5 b.1 in
-    sym (parsed_ask op [] (λ h. omega arith) a.0 refl)
+    let other : op ≡ 0x0E → ⊥ = λ h. omega arith in
+    rw (ne_eqb op 0x0E other, a.0)
 parsed_back (Write r v) t e =
-    let a = right (is_register r) (pick (in_range r v) 0 range) register (λ h. omega arith) e in
-    let b = right (in_range r v) 0 range (λ h. omega arith) a.1 in
-    sym (set_read (set_load r v) refl a.0 v (sym (word_back v t)) b.0 ∙ parsed_set_lem 14 (set_load r v) refl)
+    let a = into (is_register r) _ _ _ (not_sound refusal.Register) (sym e) in
+    let b = into (in_range r v) _ _ _ (not_sound refusal.Range) a.1 in
+    let back = word_back v t in
+    rw (a.0, back, b.0)
 
 payload_of_lem : (op : ℕ) (load : List ℕ) → payload_of (frame_bytes op load) ≡ load
 payload_of_lem op load =
@@ -66,21 +65,22 @@ payload_of_lem op load =
     ap (λ (k : ℕ). take k (drop 3 (frame_bytes op load))) n ∙ payload_back op load
 
 -- every request without a fault is read back from its frame
-pub written_reads_back_request : (q : Request) → Typed q → fault_of q ≡ 0 → request_of (frame_for q) ≡ Is q
+pub written_reads_back_request : (q : Request) → Typed q → fault_of q ≡ Ok tt → request_of (frame_for q) ≡ Ok q
+unfolding request_of
 written_reads_back_request q t e =
-    sym (request_whole (opcode_of q) 3 (length (load_of q)) (frame_for q) (frame_reads_back (opcode_of q) (load_of q)))
+    ap (λ (f : Result Frame Refusal). of_frame f (payload_of (frame_for q))) (sym (frame_reads_back (opcode_of q) (load_of q)))
     ∙ ap (parsed_of (opcode_of q)) (payload_of_lem (opcode_of q) (load_of q)) ∙ parsed_back q t e
 
 -- ---- a frame that is read as a request is the one written for it
 
-pub not_refused : (q : Request) (r : Refusal) → Is q ≡ Refused r → ⊥
-not_refused q r h = let z : ◌≡◌ {A = ℕ} 0 1 = cc in omega arith
+not_refused : (q : Request) (why : Refusal) → ◌≡◌ {A = Result Request Refusal} (Ok q) (Err why) → ⊥
+not_refused q why h = absurd cc
 
 -- what the data were where they were read as a request
 pub record Read (op : ℕ) (load : List ℕ) (q : Request) : Type 0 where
   pub opcode : op ≡ opcode_of q
   pub data_are : load ≡ load_of q
-  pub no_fault : fault_of q ≡ 0
+  pub no_fault : fault_of q ≡ Ok tt
 
 -- five bytes, one by one
 five : (load : List ℕ) → length load ≡ 5 → load ≡ get_or load 0 0 ∷ get_or load 1 0 ∷ get_or load 2 0 ∷ get_or load 3 0 ∷ get_or load 4 0 ∷ []
@@ -91,7 +91,7 @@ five load e = sym (lib.Seq.take_all 5 load (omega arith)) ∙ front load 5 (omeg
 abbrev pub AllBytes : List ℕ → Type 0
 AllBytes s = (i : ℕ) → get_or s i 0 < 256
 
-set_was : (load : List ℕ) (q : Request) → AllBytes load → Is q ≡ parsed_set load → Read 14 load q
+set_was : (load : List ℕ) (q : Request) → AllBytes load → Ok q ≡ parsed_set load → Read 14 load q
 unfolding parsed_set fault_of
 set_was load q byte h =
     let r = get_or load 0 0 in
@@ -108,11 +108,11 @@ set_was load q byte h =
       no_fault = rw (e, b.0, d.0);
     }
 
-parsed_was : (op : ℕ) (load : List ℕ) (q : Request) → AllBytes load → Is q ≡ parsed_of op load → Read op load q
+parsed_was : (op : ℕ) (load : List ℕ) (q : Request) → AllBytes load → Ok q ≡ parsed_of op load → Read op load q
 unfolding parsed_of fault_of
 parsed_was op load q byte h = go (eqb op 0x0E) refl h
   where
-    go : (t : Bool) → eqb op 0x0E ≡ t → Is q ≡ pick t (parsed_set load) (pick (asks op) (pick (eqb (length load) 0) (Is (Ask op)) (Refused (refused_with shape))) (Refused (refused_with request))) → Read op load q
+    go : (t : Bool) → eqb op 0x0E ≡ t → Ok q ≡ pick t (parsed_set load) (pick (asks op) (pick (eqb (length load) 0) (Ok (Ask op)) (Err refusal.Shape)) (Err refusal.Request)) → Read op load q
     go true t p = let e : op ≡ 14 = eqb-true op 14 t in rw e (set_was load q byte p)
     go false t p =
         let no = not_refused q in
@@ -137,18 +137,18 @@ bytes_drop (suc k) [] h = h
 bytes_drop (suc k) (x ∷ s) h = bytes_drop k s (λ j. h (suc j))
 
 -- bytes that are read as a request are the frame that is written for it, and the writer takes the request
-pub request_is_its_frame : (s : List ℕ) (q : Request) → AllBytes s → request_of s ≡ Is q → (frame_for q ≡ s) × (fault_of q ≡ 0)
+pub request_is_its_frame : (s : List ℕ) (q : Request) → AllBytes s → request_of s ≡ Ok q → (frame_for q ≡ s) × (fault_of q ≡ Ok tt)
 unfolding request_of
 request_is_its_frame s q byte h = go (frame_of s) refl h
   where
-    go : (f : Frame) → frame_of s ≡ f → of_frame f (payload_of s) ≡ Is q → (frame_for q ≡ s) × (fault_of q ≡ 0)
-    go (NoFrame r) e p = absurd (not_refused q r (sym p))
-    go (Whole op st len) e p =
-        let parts = whole_parts s op st len (sym e) in
-        let was = parsed_was op (payload_of s) q (bytes_take (length s - 6) (drop 3 s) (bytes_drop 3 s byte)) (sym p) in
-        let n : length s - 6 ≡ len = omega arith in
-        let same : take len (drop st s) ≡ load_of q =
+    go : (f : Result Frame Refusal) → frame_of s ≡ f → of_frame f (payload_of s) ≡ Ok q → (frame_for q ≡ s) × (fault_of q ≡ Ok tt)
+    go (Err why) e p = absurd (not_refused q why (sym p))
+    go (Ok f) e p =
+        let parts = whole_parts s f (sym e) in
+        let was = parsed_was f.opcode (payload_of s) q (bytes_take (length s - 6) (drop 3 s) (bytes_drop 3 s byte)) (sym p) in
+        let n : length s - 6 ≡ f.len = omega arith in
+        let same : take f.len (drop f.start s) ≡ load_of q =
         ap₂ (λ (a b : ℕ). take a (drop b s)) (sym n) parts.start ∙ was.data_are in (
-          ap₂ frame_bytes (sym was.opcode) (sym same) ∙ frame_writes_back s op st len (sym e) (byte (len + 3)) (byte (len + 4)),
+          ap₂ frame_bytes (sym was.opcode) (sym same) ∙ frame_writes_back s f (sym e) (byte (f.len + 3)) (byte (f.len + 4)),
           was.no_fault,
         )

@@ -5,66 +5,50 @@ ghost use Rattle.std.specs.Prelude.{◌≡◌, length};
 ghost use Rattle.times_tongzhu.specs.Times.{time_in};
 ghost use Rattle.requests_read_tongzhu.specs.Reading.{payload_in, time_request, parsed_of};
 
-use frames_tongzhu::{Frame, read_frame};
+use frames_tongzhu::read_frame;
 use functions_tongzhu::{Kind, kind_of};
-use refusals::{Refusal, refuse};
+use refusals::Refusal;
 use requests_tongzhu::Request;
 use times_tongzhu::{Time, is_real, time_in};
 
-// What request the input is.
-#[derive(Drop)]
-pub enum Parsed {
-    Is(Request),
-    Refused(Refusal),
-}
-
 // Reads a request.
-#[tactic(auto, using(frames_tongzhu::proofs::Ladder::whole_parts, crate::proofs::Parsing::no_frame, crate::proofs::Parsing::whole_frame), unfolding(crate::specs::Reading::parsed_of))]
-pub fn read_request(s: &[u8]) -> Parsed
+#[tactic(auto, using(frames_tongzhu::proofs::Ladder::whole_parts, frames_tongzhu::proofs::Ladder::payload_part), unfolding(crate::specs::Reading::parsed_of))]
+pub fn read_request(s: &[u8]) -> Result<Request, Refusal>
     ensures { result ≡ parsed_of s.now }
 {
-    let f = read_frame(s);
-    match f {
-        Frame::Refused(r) => Parsed::Refused(r),
-        Frame::Whole {
-            function,
-            start,
-            len,
-        } => payload_in(function, &s[start..start + len]),
-    }
+    let f = read_frame(s)?;
+    payload_in(f.function, &s[f.start..f.start + f.len])
 }
 
 // The request of a whole frame with this function and this payload.
 #[tactic(auto, unfolding(crate::specs::Reading::payload_in))]
-fn payload_in(function: u8, p: &[u8]) -> Parsed
+fn payload_in(function: u8, p: &[u8]) -> Result<Request, Refusal>
     ensures { result ≡ payload_in function p.now }
 {
-    let k = kind_of(function);
-    match k {
+    match kind_of(function).ok_or(Refusal::Request)? {
         Kind::Reads => {
             if p.len() != 0 {
-                return Parsed::Refused(refuse(refusals::SHAPE));
+                return Err(Refusal::Shape);
             }
-            Parsed::Is(Request::Ask(function))
+            Ok(Request::Ask(function))
         }
         Kind::Sets => {
             if p.len() != 6 {
-                return Parsed::Refused(refuse(refusals::SHAPE));
+                return Err(Refusal::Shape);
             }
             time_request(time_of(p))
         }
-        Kind::Unlisted => Parsed::Refused(refuse(refusals::REQUEST)),
     }
 }
 
 #[tactic(auto, unfolding(crate::specs::Reading::time_request))]
-fn time_request(t: Time) -> Parsed
+fn time_request(t: Time) -> Result<Request, Refusal>
     ensures { result ≡ time_request t }
 {
-    if is_real(t) {
-        return Parsed::Is(Request::SetTime(t));
+    if !is_real(t) {
+        return Err(Refusal::Range);
     }
-    Parsed::Refused(refuse(refusals::RANGE))
+    Ok(Request::SetTime(t))
 }
 
 // Six bytes as the time that they are.

@@ -4,13 +4,12 @@ use mathlib.Core.Path.{◌≡◌, refl, sym, ap, ◌∙◌}
 use mathlib.Core.Bool.{Bool, true, false}
 use mathlib.Core.List.{List, [], ◌∷◌}
 use Prim.Native.Nat.{ℕ}
-use native.Mathlib.Omega.{arith}
 use lib.Dec.{eqb}
 use lib.ListN.{get_or}
 use borrow.Author.Tests.{ne_eqb}
 use Rattle.laws.specs.Choice.{pick}
 use Rattle.restore_order.specs.Slots.{writes, slots}
-use Rattle.restore_rules.specs.declared.First.TheVariants.{At, Nothing}
+use Rattle.std.specs.Prelude.{Some, None}
 use Rattle.restore_rules.specs.Rules.{first_of}
 use Rattle.restore_jobs.specs.declared.Phase.{Phase}
 use Rattle.restore_jobs.specs.declared.Phase.TheVariants.{Ready, Waiting, Stopped}
@@ -22,12 +21,12 @@ calm_phase Ready ws h = refl
 calm_phase (Waiting r) ws h = absurd (h r refl)
 calm_phase Stopped ws h = refl
 
-none_first : (r : ℕ) (ws : List ℕ) → Nothing ≡ first_of ws → false ≡ is_first r ws
+none_first : (r : ℕ) (ws : List ℕ) → None ≡ first_of ws → false ≡ is_first r ws
 none_first r [] h = refl
-none_first r (n ∷ ws) h = let z : ◌≡◌ {A = ℕ} 0 1 = cc in absurd (omega arith)
+none_first r (n ∷ ws) h = absurd cc
 
-one_first : (r n : ℕ) (ws : List ℕ) → At n ≡ first_of ws → eqb r n ≡ is_first r ws
-one_first r n [] h = let z : ◌≡◌ {A = ℕ} 0 1 = cc in absurd (omega arith)
+one_first : (r n : ℕ) (ws : List ℕ) → Some n ≡ first_of ws → eqb r n ≡ is_first r ws
+one_first r n [] h = absurd cc
 one_first r n (m ∷ ws) h = let e : n ≡ m = cc in ap (eqb r) e
 
 -- bytes of a job in another phase than the waiting one
@@ -49,8 +48,8 @@ module _ (j : Job) where
     unfolding stands
     by_first = ap (λ (p : Phase). phase_stands p (writes slots j.present j.wanted)) (sym waits)
 
-    pub nothing_to_come : Nothing ≡ first_of (writes slots j.present j.wanted) → false ≡ stands j
+    pub nothing_to_come : None ≡ first_of (writes slots j.present j.wanted) → false ≡ stands j
     nothing_to_come h = none_first r (writes slots j.present j.wanted) h ∙ by_first
 
-    pub first_to_come : (n : ℕ) → At n ≡ first_of (writes slots j.present j.wanted) → eqb r n ≡ stands j
+    pub first_to_come : (n : ℕ) → Some n ≡ first_of (writes slots j.present j.wanted) → eqb r n ≡ stands j
     first_to_come n h = one_first r n (writes slots j.present j.wanted) h ∙ by_first

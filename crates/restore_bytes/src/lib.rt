@@ -7,7 +7,7 @@ ghost use Rattle.restore_bytes.specs.Jobs.{phase_in, stands, is_job, job_of};
 
 use lists_pathfinder::read_words;
 use restore_jobs::{Job, Phase};
-use restore_rules::{First, first_write};
+use restore_rules::first_write;
 
 // How many bytes a job has.
 pub const JOB: usize = 402;
@@ -42,8 +42,9 @@ pub fn job_of(b: &[u8]) -> Job
             phase: Phase::Stopped,
         };
     }
-    read_words(&b[0..200], &mut present);
-    read_words(&b[200..400], &mut wanted);
+    // 200 bytes are 50 words, so that neither is refused.
+    let _ = read_words(&b[0..200], &mut present);
+    let _ = read_words(&b[200..400], &mut wanted);
     Job {
         present,
         wanted,
@@ -55,26 +56,22 @@ pub fn job_of(b: &[u8]) -> Job
 fn can_stand(j: Job) -> bool
     ensures { result ≡ stands j }
 {
-    let phase = j.phase;
-    let Phase::Waiting(register) = phase else {
+    let Phase::Waiting(register) = j.phase else {
         return true;
     };
-    let present = j.present;
-    let wanted = j.wanted;
-    let First::At(first) = first_write(&present, &wanted) else {
+    let Some(first) = first_write(&j.present, &j.wanted) else {
         return false;
     };
     register == first
 }
 
+#[tactic(auto, unfolding(crate::specs::Jobs::phase_in))]
 fn phase_of(p: u8, register: u8) -> Phase
     ensures { result ≡ phase_in p register }
 {
-    if p == 0 {
-        return Phase::Ready;
+    match p {
+        0 => Phase::Ready,
+        1 => Phase::Waiting(register),
+        _ => Phase::Stopped,
     }
-    if p == 1 {
-        return Phase::Waiting(register);
-    }
-    Phase::Stopped
 }

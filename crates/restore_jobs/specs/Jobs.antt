@@ -1,13 +1,12 @@
 -- A job as the machine of `restore_order` has it, and what opening one gives (01, Restore): a step of the machine, as this crate's types say it.
 -- Assumes nothing.
-use Rattle.std.specs.Prelude.{List, ℕ, ℤ, pos, replicate}
+use Rattle.std.specs.Prelude.{List, ℕ, ℤ, pos, replicate, Result, Ok, Err}
+use Rattle.refusals.specs.declared.Refusal.{Refusal}
 use Rattle.restore_order.specs.Machine as M
 use Rattle.restore_order.specs.Opening as O
 use Rattle.restore_jobs.specs.declared.Phase.{Phase}
 use Rattle.restore_jobs.specs.declared.Phase.TheVariants.{Ready, Waiting, Stopped}
 use Rattle.restore_jobs.specs.declared.Job.{Job}
-use Rattle.restore_jobs.specs.declared.Opening.TheVariants.{Accepted, Refused}
-use Rattle.restore_jobs.specs.declared.Opened.{Opened}
 
 -- ---- the job
 
@@ -29,17 +28,17 @@ held_phase M.stopped = Stopped
 abbrev pub held : M.Job → Job
 held m = record { present = m.present; wanted = m.wanted; phase = held_phase m.phase }
 
--- ---- open
-
--- the job that comes with a refusal: nothing is wanted, and nothing goes on
+-- the job in bytes that are none: nothing is wanted, and nothing goes on
 abbrev pub no_job : Job
 no_job = record { present = replicate 50 (pos 0); wanted = replicate 50 (pos 0); phase = Stopped }
 
-abbrev pub opened_as : O.Opened → Opened
-opened_as (O.opened m) = record { opening = Accepted; job = held m }
-opened_as (O.unopened why) = record { opening = Refused why; job = no_job }
+-- ---- open
 
-abbrev pub open_of : List ℤ → List ℤ → Opened
+abbrev pub opened_as : O.Opened → Result Job Refusal
+opened_as (O.opened m) = Ok (held m)
+opened_as (O.unopened why) = Err why
+
+abbrev pub open_of : List ℤ → List ℤ → Result Job Refusal
 open_of o w = opened_as (O.opening O.pathfinder o w)
 
 -- ---- left

@@ -1,8 +1,7 @@
 -- What next gives (01, Restore): a step of the machine of `restore_order` on the job, and the step as this crate's types say it.
 -- Number and values of each case stand here: a frame's bytes are those that the request writer gives for request 0E.
-use Rattle.std.specs.Prelude.{Bool, true, false, List, ℕ, length}
-use Rattle.refusals.specs.declared.Written.{Written}
-use Rattle.refusals.specs.declared.Written.TheVariants.{Frame as HasFrame, Refused as NoFrame}
+use Rattle.std.specs.Prelude.{Bool, true, false, List, ℕ, length, Result, Ok, Err}
+use Rattle.refusals.specs.declared.Refusal.{Refusal}
 use Rattle.refusals.specs.Writing.{room_after}
 use Rattle.requests_pathfinder.specs.declared.Request.TheVariants.{Write}
 use Rattle.requests_pathfinder.specs.Requests.{frame_for, sent_as}
@@ -12,7 +11,7 @@ use Rattle.restore_jobs.specs.declared.Phase.{Phase}
 use Rattle.restore_jobs.specs.declared.Phase.TheVariants.{Ready, Waiting, Stopped}
 use Rattle.restore_jobs.specs.declared.Job.{Job}
 use Rattle.restore_jobs.specs.Jobs.{machine, held}
-use Rattle.restore_next.specs.declared.Step.TheVariants.{Frame, Done, Refused as NoStep}
+use Rattle.restore_next.specs.declared.Step.TheVariants.{Frame, Done}
 use Rattle.restore_next.specs.declared.Stepped.{Stepped}
 
 -- between two frames: neither waiting nor stopped
@@ -22,14 +21,14 @@ is_ready (Waiting r) = false
 is_ready Stopped = false
 
 -- the writer's answer: its frame, and the job then waits; or its refusal, with the job as it was
-abbrev pub sent_of : Job → Job → Written → Stepped
-sent_of j waits (HasFrame n) = record { step = Frame n; job = waits }
-sent_of j waits (NoFrame why) = record { step = NoStep why; job = j }
+abbrev pub sent_of : Job → Job → Result ℕ Refusal → Stepped
+sent_of j waits (Ok n) = record { step = Ok (Frame n); job = waits }
+sent_of j waits (Err why) = record { step = Err why; job = j }
 
 abbrev pub step_for : Job → ℕ → M.Asked → Stepped
 step_for j places (M.write r v) = sent_of j (held (M.after_asked (M.write r v) (machine j))) (sent_as (Write r v) places)
-step_for j places M.done = record { step = Done; job = j }
-step_for j places (M.declined why) = record { step = NoStep why; job = j }
+step_for j places M.done = record { step = Ok Done; job = j }
+step_for j places (M.declined why) = record { step = Err why; job = j }
 
 -- with so many bytes of room
 abbrev pub next_of : Job → ℕ → Stepped

@@ -3,27 +3,26 @@
 #![tactic(auto)]
 
 ghost use Rattle.std.specs.Prelude.{◌≡◌, length};
-ghost use Rattle.refusals.specs.Refused.{refused_with};
 ghost use Rattle.restore_next.specs.Next.{is_ready, sent_of, next_of, room_of};
 
-use refusals::{Refusal, Written, refuse};
+use refusals::Refusal;
 use requests_pathfinder::write_set;
 use restore_jobs::{Job, Phase};
-use restore_rules::{First, first_write};
+use restore_rules::first_write;
 
-#[derive(Drop)]
+// What next does.
+#[derive(Clone, Copy, Debug, PartialEq, Eq)]
 pub enum Step {
     // A frame of so many bytes stands at the front of the room; its reply is due.
     Frame(usize),
     // No setting differs any more.
     Done,
-    Refused(Refusal),
 }
 
-// What next gives.
-#[derive(Drop)]
+// What next gives: a step or a refusal, and the job after it.
+#[derive(Clone, Copy, Debug, PartialEq, Eq)]
 pub struct Stepped {
-    pub step: Step,
+    pub step: Result<Step, Refusal>,
     pub job: Job,
 }
 
@@ -32,63 +31,55 @@ pub fn next(job: Job, out: &mut [u8]) -> Stepped
     ensures answer { result ≡ next_of job (length out.old) }
     ensures room { out.new ≡ room_of job out.old }
 {
-    let phase = job.phase;
-    let ready = is_ready(phase);
+    let ready = is_ready(job.phase);
     let roomy = 11 <= out.len();
     if !ready {
-        return declined(job, refusals::TURN);
+        return declined(job, Refusal::Turn);
     }
-    let present = job.present;
-    let wanted = job.wanted;
-    let First::At(register) = first_write(&present, &wanted) else {
+    let Some(register) = first_write(&job.present, &job.wanted) else {
         return Stepped {
-            step: Step::Done,
+            step: Ok(Step::Done),
             job,
         };
     };
     if !roomy {
-        return declined(job, refusals::ROOM);
+        return declined(job, Refusal::Room);
     }
-    let value = wanted[register as usize];
-    let written = write_set(register, value, out);
     let waits = Job {
-        present,
-        wanted,
         phase: Phase::Waiting(register),
+        ..job
     };
+    let value = job.wanted[register as usize];
+    let written = write_set(register, value, out);
     sent(job, waits, written)
 }
 
 fn is_ready(phase: Phase) -> bool
     ensures { result ≡ is_ready phase }
 {
-    match phase {
-        Phase::Ready => true,
-        Phase::Waiting(_) => false,
-        Phase::Stopped => false,
-    }
+    phase == Phase::Ready
 }
 
-fn declined(job: Job, number: u8) -> Stepped
-    ensures { result ≡ record { step = Step.Refused (refused_with number); job = job } }
+fn declined(job: Job, why: Refusal) -> Stepped
+    ensures { result ≡ record { step = Err why; job = job } }
 {
     Stepped {
-        step: Step::Refused(refuse(number)),
+        step: Err(why),
         job,
     }
 }
 
 // After the writer's answer: the job waits if there is a frame, and else is as it was.
-fn sent(job: Job, waits: Job, written: Written) -> Stepped
+fn sent(job: Job, waits: Job, written: Result<usize, Refusal>) -> Stepped
     ensures { result ≡ sent_of job waits written }
 {
     match written {
-        Written::Frame(n) => Stepped {
-            step: Step::Frame(n),
+        Ok(n) => Stepped {
+            step: Ok(Step::Frame(n)),
             job: waits,
         },
-        Written::Refused(why) => Stepped {
-            step: Step::Refused(why),
+        Err(why) => Stepped {
+            step: Err(why),
             job,
         },
     }

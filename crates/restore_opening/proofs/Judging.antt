@@ -4,18 +4,17 @@ use mathlib.Core.Path.{◌≡◌, refl, ap}
 use mathlib.Core.Bool.{Bool, true, false, ◌&&◌}
 use mathlib.Core.List.{List}
 use Prim.Native.Nat.{ℕ}
-use native.Mathlib.Omega.{arith}
 use lib.IntN.{ℤ}
 use lib.Dec.{eqb}
 use lib.ListN.{length}
-use borrow.Author.Tests.{eq-eqb, eqb-true}
+use borrow.Author.Tests.{eq-eqb, ne_eqb, eqb-true}
+use Rattle.std.specs.Prelude.{Ok, Err}
 use Rattle.laws.proofs.Ladders.{both}
-use Rattle.refusals.specs.Refused.{refused_with, shape, register, range, wanted_pair, present_pair}
+use Rattle.refusals.specs.declared.Refusal.TheVariants as refusal
 use Rattle.restore_order.specs.Slots.{slots, at, sides}
 use Rattle.restore_order.specs.Machine.{Job, job_of, ready}
 use Rattle.laws.specs.Every.{every}
 use Rattle.restore_order.specs.Opening.{pathfinder, opened, in_order, shapely, unmoved, ranged, opening}
-use Rattle.restore_opening.specs.declared.Verdict.TheVariants.{Accepted, Refused}
 use Rattle.restore_rules.specs.Places.{place_at}
 use Rattle.restore_opening.specs.Verdicts.{verdict_of, upright}
 
@@ -39,20 +38,23 @@ module _ (p : List ℤ) where
 
 module _ (o w : List ℤ) where
   -- without 50 words and 50 values nothing has the right shape; with them the types of the present settings decide
-  pub unsized : (eqb (length o) 50 && eqb (length w) 50) ≡ false → shapely pathfinder o w ≡ false
-  unsized h = go (eqb (length o) 50) (eqb (length w) 50) h
-    where
-      typed : Bool
-      typed = every 50 (λ n. pathfinder.fits_type n (at o n))
+  typed : Bool
+  typed = every 50 (λ n. pathfinder.fits_type n (at o n))
 
-      go : (a b : Bool) → (a && b) ≡ false → (a && (b && typed)) ≡ false
-      go true b e = rw e
-      go false b e = refl
+  pub unsized_present : (length o ≡ 50 → ⊥) → shapely pathfinder o w ≡ false
+  unsized_present h = rw (ne_eqb (length o) 50 h)
+
+  pub unsized_wanted : (length w ≡ 50 → ⊥) → shapely pathfinder o w ≡ false
+  unsized_wanted h = rw (ne_eqb (length w) 50 h) (go (eqb (length o) 50))
+    where
+      go : (a : Bool) → (a && (false && typed)) ≡ false
+      go true = refl
+      go false = refl
 
   pub sized : length o ≡ 50 → length w ≡ 50 → shapely pathfinder o w ≡ every 50 (λ n. pathfinder.fits_type n (at o n))
   sized a b = rw (eq-eqb _ _ a, eq-eqb _ _ b)
 
-  pub misshapen : shapely pathfinder o w ≡ false → Refused (refused_with shape) ≡ verdict_of (opening pathfinder o w)
+  pub misshapen : shapely pathfinder o w ≡ false → Err refusal.Shape ≡ verdict_of (opening pathfinder o w)
   unfolding opening
   misshapen h = rw h
 
@@ -65,41 +67,41 @@ module _ (o w : List ℤ) where
         let b = both (eqb (length w) 50) typed a.1 in
         (eqb-true (length o) 50 a.0, eqb-true (length w) 50 b.0)
 
-    pub fixed_moved : unmoved pathfinder o w ≡ false → Refused (refused_with register) ≡ verdict_of (opening pathfinder o w)
+    pub fixed_moved : unmoved pathfinder o w ≡ false → Err refusal.Register ≡ verdict_of (opening pathfinder o w)
     unfolding opening
     fixed_moved h = rw (shapes, h)
 
     module _ (fixed : unmoved pathfinder o w ≡ true) where
-      pub out_of_range : ranged pathfinder w ≡ false → Refused (refused_with range) ≡ verdict_of (opening pathfinder o w)
+      pub out_of_range : ranged pathfinder w ≡ false → Err refusal.Range ≡ verdict_of (opening pathfinder o w)
       unfolding opening
       out_of_range h = rw (shapes, fixed, h)
 
       module _ (values : ranged pathfinder w ≡ true) where
-        pub wanted_crossed : sides slots w ≡ false → Refused (refused_with wanted_pair) ≡ verdict_of (opening pathfinder o w)
+        pub wanted_crossed : sides slots w ≡ false → Err refusal.WantedPair ≡ verdict_of (opening pathfinder o w)
         unfolding opening
         wanted_crossed h = rw (shapes, fixed, values, h)
 
         module _ (wanted : sides slots w ≡ true) where
-          pub present_crossed : sides slots o ≡ false → Refused (refused_with present_pair) ≡ verdict_of (opening pathfinder o w)
+          pub present_crossed : sides slots o ≡ false → Err refusal.PresentPair ≡ verdict_of (opening pathfinder o w)
           unfolding opening
           present_crossed h = rw (shapes, fixed, values, wanted, h)
 
-          pub accepted : sides slots o ≡ true → Accepted ≡ verdict_of (opening pathfinder o w)
+          pub accepted : sides slots o ≡ true → Ok tt ≡ verdict_of (opening pathfinder o w)
           unfolding opening
           accepted h = rw (shapes, fixed, values, wanted, h)
 
   -- the other way: what is accepted has passed every test
-  pub is_opened : Accepted ≡ verdict_of (opening pathfinder o w) → (shapely pathfinder o w ≡ true) × (opening pathfinder o w ≡ opened (job_of o w ready))
+  pub is_opened : Ok tt ≡ verdict_of (opening pathfinder o w) → (shapely pathfinder o w ≡ true) × (opening pathfinder o w ≡ opened (job_of o w ready))
   unfolding opening
   is_opened e = go (shapely pathfinder o w) (unmoved pathfinder o w) (ranged pathfinder w) (sides slots w) (sides slots o) e
     where
       j : Job
       j = job_of o w ready
 
-      go : (a b c d e : Bool) → Accepted ≡ verdict_of (in_order a b c d e j) → (a ≡ true) × (in_order a b c d e j ≡ opened j)
+      go : (a b c d e : Bool) → Ok tt ≡ verdict_of (in_order a b c d e j) → (a ≡ true) × (in_order a b c d e j ≡ opened j)
       go true true true true true q = (refl, refl)
-      go true true true true false q = let z : ◌≡◌ {A = ℕ} 0 1 = cc in absurd (omega arith)
-      go true true true false e q = let z : ◌≡◌ {A = ℕ} 0 1 = cc in absurd (omega arith)
-      go true true false d e q = let z : ◌≡◌ {A = ℕ} 0 1 = cc in absurd (omega arith)
-      go true false c d e q = let z : ◌≡◌ {A = ℕ} 0 1 = cc in absurd (omega arith)
-      go false b c d e q = let z : ◌≡◌ {A = ℕ} 0 1 = cc in absurd (omega arith)
+      go true true true true false q = absurd cc
+      go true true true false e q = absurd cc
+      go true true false d e q = absurd cc
+      go true false c d e q = absurd cc
+      go false b c d e q = absurd cc

@@ -2,7 +2,7 @@
 // of `restore_order`; the pairs are those of `restore_rules`.
 #![tactic(auto)]
 
-ghost use Rattle.std.specs.Prelude.{◌≡◌, ◌&&◌, ◌<◌, eqb, length};
+ghost use Rattle.std.specs.Prelude.{◌≡◌, ◌<◌};
 ghost use Rattle.std.specs.Int.Signed.{lt_z};
 ghost use Rattle.laws.specs.Every.{every};
 ghost use Rattle.restore_order.specs.Slots.{at, is_in, sides, slots};
@@ -10,29 +10,22 @@ ghost use Rattle.restore_order.specs.Opening.{pathfinder, opening};
 ghost use Rattle.restore_rules.specs.Places.{place_at};
 ghost use Rattle.restore_opening.specs.Verdicts.{verdict_of, unmoved, writable, fits, upright};
 
-use refusals::{Refusal, refuse};
+use refusals::Refusal;
 use registers_pathfinder::{fits_type, in_range};
-use restore_rules::{Place, place_of};
-
-#[derive(Drop)]
-pub enum Verdict {
-    Accepted,
-    Refused(Refusal),
-}
+use restore_rules::place_of;
 
 // Whether a restore of these present words towards these values may open.
-pub fn judge(present: &[i32], wanted: &[i32]) -> Verdict
+pub fn judge(present: &[i32], wanted: &[i32]) -> Result<(), Refusal>
     ensures { result ≡ verdict_of (opening pathfinder present.now wanted.now) }
 {
-    if is_sized(present, wanted) {
-        return judge_values(present, wanted);
+    match (present.as_array::<50>(), wanted.as_array::<50>()) {
+        (Some(present), Some(wanted)) => judge_values(present, wanted),
+        _ => Err(Refusal::Shape),
     }
-    Verdict::Refused(refuse(refusals::SHAPE))
 }
 
 // The same of 50 words and 50 values. All tests are made before the first of them refuses: their order is that of the refusals alone.
-fn judge_values(present: &[i32], wanted: &[i32]) -> Verdict
-    requires { (length present.now ≡ 50) × (length wanted.now ≡ 50) }
+fn judge_values(present: &[i32; 50], wanted: &[i32; 50]) -> Result<(), Refusal>
     ensures { result ≡ verdict_of (opening pathfinder present.now wanted.now) }
 {
     let typed = all_fit(present, false);
@@ -41,34 +34,24 @@ fn judge_values(present: &[i32], wanted: &[i32]) -> Verdict
     let wanted_right = are_upright(wanted);
     let present_right = are_upright(present);
     if !typed {
-        return Verdict::Refused(refuse(refusals::SHAPE));
+        return Err(Refusal::Shape);
     }
     if !kept {
-        return Verdict::Refused(refuse(refusals::REGISTER));
+        return Err(Refusal::Register);
     }
     if !ranged {
-        return Verdict::Refused(refuse(refusals::RANGE));
+        return Err(Refusal::Range);
     }
     if !wanted_right {
-        return Verdict::Refused(refuse(refusals::WANTED_PAIR));
+        return Err(Refusal::WantedPair);
     }
     if !present_right {
-        return Verdict::Refused(refuse(refusals::PRESENT_PAIR));
+        return Err(Refusal::PresentPair);
     }
-    Verdict::Accepted
+    Ok(())
 }
 
 // ---- the tests
-
-// 50 words and 50 values.
-fn is_sized(present: &[i32], wanted: &[i32]) -> bool
-    ensures { result ≡ (eqb (length present.now) 50 && eqb (length wanted.now) 50) }
-{
-    if present.len() != 50 {
-        return false;
-    }
-    wanted.len() == 50
-}
 
 // Whether a setting is written: 47, 48 and 49 are fixed.
 fn is_written(n: u8) -> bool
@@ -78,16 +61,13 @@ fn is_written(n: u8) -> bool
 }
 
 // The fixed settings are wanted as they are.
-fn all_unmoved(present: &[i32], wanted: &[i32]) -> bool
-    requires { (length present.now ≡ 50) × (length wanted.now ≡ 50) }
+fn all_unmoved(present: &[i32; 50], wanted: &[i32; 50]) -> bool
     ensures { result ≡ every 50 (λ n. unmoved n (at wanted.now n) (at present.now n)) }
 {
-    let mut n: usize = 0;
-    while n < 50 {
+    for n in 0..50 {
         if !is_unmoved(n as u8, wanted[n], present[n]) {
             return false;
         }
-        n += 1;
     }
     true
 }
@@ -95,20 +75,17 @@ fn all_unmoved(present: &[i32], wanted: &[i32]) -> bool
 fn is_unmoved(n: u8, to: i32, from: i32) -> bool
     ensures { result ≡ unmoved n to from }
 {
-    if is_written(n) { true } else { to == from }
+    is_written(n) || to == from
 }
 
 // The values are of their settings' types; wanted ones, unless fixed, are in their registers' ranges too.
-fn all_fit(values: &[i32], wanted: bool) -> bool
-    requires { length values.now ≡ 50 }
+fn all_fit(values: &[i32; 50], wanted: bool) -> bool
     ensures { result ≡ every 50 (λ n. fits wanted n (at values.now n)) }
 {
-    let mut n: usize = 0;
-    while n < 50 {
+    for n in 0..50 {
         if !is_fit(n as u8, values[n], wanted) {
             return false;
         }
-        n += 1;
     }
     true
 }
@@ -126,49 +103,34 @@ fn is_fit(n: u8, value: i32, wanted: bool) -> bool
 fn is_writable(n: u8, value: i32) -> bool
     ensures { result ≡ writable n value }
 {
-    if !is_written(n) {
-        return true;
-    }
-    if in_range(n, value) {
-        fits_type(n, value)
-    } else {
-        false
-    }
+    !is_written(n) || in_range(n, value) && fits_type(n, value)
 }
 
 // Each pair has its upper member strictly above its lower one.
-fn are_upright(values: &[i32]) -> bool
-    requires { length values.now ≡ 50 }
+#[tactic(auto, using(crate::proofs::Judging::all_up))]
+fn are_upright(values: &[i32; 50]) -> bool
     ensures { result ≡ sides slots values.now }
 {
-    if !is_upright(values, 3) {
-        return false;
-    }
-    if !is_upright(values, 6) {
-        return false;
-    }
-    if !is_upright(values, 9) {
-        return false;
-    }
-    if !is_upright(values, 12) {
-        return false;
-    }
-    is_upright(values, 28)
+    is_upright(values, 3)
+        && is_upright(values, 6)
+        && is_upright(values, 9)
+        && is_upright(values, 12)
+        && is_upright(values, 28)
 }
 
 // The pair that has its place at n stands right.
-fn is_upright(values: &[i32], n: u8) -> bool
-    requires { (length values.now ≡ 50) × (n < 47) }
+fn is_upright(values: &[i32; 50], n: u8) -> bool
+    requires { n < 47 }
     ensures { result ≡ upright values.now (place_at n) }
 {
     match place_of(n) {
-        Place::Pair(upper, lower) => is_above(values, upper, lower),
-        Place::Alone => true,
+        Some((upper, lower)) => is_above(values, upper, lower),
+        None => true,
     }
 }
 
-fn is_above(values: &[i32], upper: u8, lower: u8) -> bool
-    requires { (length values.now ≡ 50) × (upper < 50) × (lower < 50) }
+fn is_above(values: &[i32; 50], upper: u8, lower: u8) -> bool
+    requires { (upper < 50) × (lower < 50) }
     ensures { result ≡ lt_z (at values.now lower) (at values.now upper) }
 {
     values[lower as usize] < values[upper as usize]

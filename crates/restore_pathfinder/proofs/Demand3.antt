@@ -10,7 +10,8 @@ use native.Mathlib.Omega.{arith}
 use lib.IntN.{ℤ}
 use lib.ListN.{length, take, length-map}
 use lib.Seq.{take_all}
-use Rattle.refusals.specs.Refused.{refused_with, turn}
+use Rattle.std.specs.Prelude.{Ok, Err, IsOk, is_ok}
+use Rattle.refusals.specs.declared.Refusal.TheVariants as refusal
 use Rattle.restore_order.specs.Slots.{slots, at, differs, writes, is_in, sides, one, times}
 use Rattle.restore_order.specs.Machine as M
 use Rattle.restore_order.specs.Opening as O
@@ -25,13 +26,11 @@ use Rattle.restore_order.proofs.Demand3 as D
 use Rattle.restore_jobs.specs.declared.Phase.{Phase}
 use Rattle.restore_jobs.specs.declared.Phase.TheVariants.{Ready, Waiting, Stopped}
 use Rattle.restore_jobs.specs.declared.Job.{Job}
-use Rattle.restore_jobs.specs.declared.Opening.TheVariants.{Accepted}
 use Rattle.restore_jobs.specs.Jobs.{phase_of, machine, held_phase, held, opened_as, open_of, left_of}
-use Rattle.restore_next.specs.declared.Step.TheVariants.{Done, Refused as NoStep}
+use Rattle.restore_next.specs.declared.Step.TheVariants.{Done}
 use Rattle.restore_next.specs.declared.Stepped.{Stepped}
 use Rattle.restore_next.specs.Next.{next_of, room_of}
 use Rattle.restore_reply.specs.declared.Outcome.TheVariants.{Failure}
-use Rattle.restore_reply.specs.declared.Answer.TheVariants.{Taken as IsTaken}
 use Rattle.restore_reply.specs.Reply.{read_as, answer_of, heard_of}
 use Rattle.restore_pathfinder.specs.Wire.{Device, WriteRule, Scene, begin, Event, goes_out, after_all}
 use Rattle.restore_pathfinder.specs.Suppositions.{OnLine, Answered, chances, Supposed}
@@ -39,45 +38,46 @@ use Rattle.restore_pathfinder.specs.Demands.{occurrences, frame_to, Finished, le
 use Rattle.restore_pathfinder.proofs.Frames.{Ranged, opened_in_range, one_frame}
 use Rattle.restore_pathfinder.proofs.Repeats.{occurrences_are}
 use Rattle.restore_pathfinder.proofs.Shadows.{pack_of, pack_obeys, world_of, Shows, moments, on_line, own_replies, chances_are, Same, ends_same, cut_moments}
+use Rattle.restore_pathfinder.specs.Wire.{job_opened}
 
 -- ---- open: not refused is opened
 
-pub accepted_opens : (o w : List ℤ) → (open_of o w).opening ≡ Accepted → O.opening O.pathfinder o w ≡ O.opened (M.job_of o w M.ready)
+pub accepted_opens : (o w : List ℤ) → IsOk (open_of o w) → O.opening O.pathfinder o w ≡ O.opened (M.job_of o w M.ready)
 unfolding O.opening
 accepted_opens o w e =
     go (O.shapely O.pathfinder o w) (O.unmoved O.pathfinder o w) (O.ranged O.pathfinder w) (sides slots w) (sides slots o) e
   where
-    go : (a b c d e : Bool) → (opened_as (O.in_order a b c d e (M.job_of o w M.ready))).opening ≡ Accepted → O.in_order a b c d e (M.job_of o w M.ready) ≡ O.opened (M.job_of o w M.ready)
+    go : (a b c d e : Bool) → IsOk (opened_as (O.in_order a b c d e (M.job_of o w M.ready))) → O.in_order a b c d e (M.job_of o w M.ready) ≡ O.opened (M.job_of o w M.ready)
     go true true true true true h = refl
-    go true true true true false h = let z : ◌≡◌ {A = ℕ} 0 1 = cc in absurd (omega arith)
-    go true true true false e h = let z : ◌≡◌ {A = ℕ} 0 1 = cc in absurd (omega arith)
-    go true true false d e h = let z : ◌≡◌ {A = ℕ} 0 1 = cc in absurd (omega arith)
-    go true false c d e h = let z : ◌≡◌ {A = ℕ} 0 1 = cc in absurd (omega arith)
-    go false b c d e h = let z : ◌≡◌ {A = ℕ} 0 1 = cc in absurd (omega arith)
+    go true true true true false h = absurd cc
+    go true true true false e h = absurd cc
+    go true true false d e h = absurd cc
+    go true false c d e h = absurd cc
+    go false b c d e h = absurd cc
 
-pub opens_accepted : (o w : List ℤ) → Passed O.pathfinder o w → (open_of o w).opening ≡ Accepted
-opens_accepted o w p = ap (λ (x : O.Opened). (opened_as x).opening) (passes O.pathfinder o w p)
+pub opens_accepted : (o w : List ℤ) → Passed O.pathfinder o w → IsOk (open_of o w)
+opens_accepted o w p = ap (λ (x : O.Opened). is_ok (opened_as x)) (passes O.pathfinder o w p)
 
 -- ---- done is done
 
-says_done : (j : Job) (places : ℕ) → M.asked slots places (machine j) ≡ M.done → (next_of j places).step ≡ Done
+says_done : (j : Job) (places : ℕ) → M.asked slots places (machine j) ≡ M.done → (next_of j places).step ≡ Ok Done
 says_done j places e = rw e
 
-said_done : (j : Job) → Ranged j → (places : ℕ) → (next_of j places).step ≡ Done → M.asked slots places (machine j) ≡ M.done
+said_done : (j : Job) → Ranged j → (places : ℕ) → (next_of j places).step ≡ Ok Done → M.asked slots places (machine j) ≡ M.done
 said_done j ranged places e = go (M.asked slots places (machine j)) refl
   where
     go : (a : M.Asked) → M.asked slots places (machine j) ≡ a → a ≡ M.done
     go (M.write r v) h =
         let f = ap (λ (x : Stepped). x.step) (one_frame j ranged places r v h) in
-        let z : ◌≡◌ {A = ℕ} 0 1 = cc in absurd (omega arith)
+        absurd cc
     go M.done h = refl
-    go (M.declined why) h = let f = rw h at e in let z : ◌≡◌ {A = ℕ} 0 1 = cc in absurd (omega arith)
+    go (M.declined why) h = let f = rw h at e in absurd cc
 
 -- ---- out of turn, and after a device failure
 
 -- next while a reply is due, or of a job that is stopped, is refused with 14: job and room stay as they were, and nothing goes out
 pub record Harmless (j : Job) (room : List ℕ) : Type 0 where
-  pub refused : (next_of j (length room)).step ≡ NoStep (refused_with turn)
+  pub refused : (next_of j (length room)).step ≡ Err refusal.Turn
   pub same_job : (next_of j (length room)).job ≡ j
   pub same_room : room_of j room ≡ room
   pub nothing_out : goes_out j room ≡ []
@@ -91,15 +91,15 @@ out_of_turn j room h = go j.phase refl h
     go Stopped e f = record { refused = rw e; same_job = rw e; same_room = rw e; nothing_out = rw e }
 
 -- a device failure that is taken stops the job
-pub failure_stops : (j : Job) (s : List ℕ) (code : ℕ) → (heard_of j s).answer ≡ IsTaken (Failure code) → (heard_of j s).job.phase ≡ Stopped
+pub failure_stops : (j : Job) (s : List ℕ) (code : ℕ) → (heard_of j s).answer ≡ Ok (Failure code) → (heard_of j s).job.phase ≡ Stopped
 failure_stops j s code e = go j.phase (read_as s) e
   where
-    go : (ph : Phase) (a : M.Answer) → answer_of (M.heard (phase_of ph) a) ≡ IsTaken (Failure code)
+    go : (ph : Phase) (a : M.Answer) → answer_of (M.heard (phase_of ph) a) ≡ Ok (Failure code)
         → held_phase (M.after_heard_in j.present j.wanted (phase_of ph) a).phase ≡ Stopped
-    go Ready a h = let z : ◌≡◌ {A = ℕ} 0 1 = cc in absurd (omega arith)
-    go (Waiting r) M.success h = let z : ◌≡◌ {A = ℕ} 0 1 = cc in absurd (omega arith)
+    go Ready a h = absurd cc
+    go (Waiting r) M.success h = absurd cc
     go (Waiting r) (M.failure c) h = refl
-    go (Waiting r) (M.refused why) h = let z : ◌≡◌ {A = ℕ} 0 1 = cc in absurd (omega arith)
+    go (Waiting r) (M.refused why) h = absurd cc
     go Stopped a h = refl
 
 -- and stopped it stays, whatever is heard
@@ -108,7 +108,7 @@ stopped_stays j s e = rw e
 
 -- ---- a dialogue and the machine's history of it
 
-module _ (device : Device) (q o w : List ℤ) (accepted : (open_of o w).opening ≡ Accepted) where
+module _ (device : Device) (q o w : List ℤ) (accepted : IsOk (open_of o w)) where
   opens : O.opening O.pathfinder o w ≡ O.opened (M.job_of o w M.ready)
   opens = accepted_opens o w accepted
 
@@ -126,8 +126,8 @@ module _ (device : Device) (q o w : List ℤ) (accepted : (open_of o w).opening 
   there n h p true i written fixed = written i
   there n h p false out written fixed = fixed out ∙ sym (passed_first.fixed n h out)
 
-  job_is : (open_of o w).job ≡ held (M.job_of o w M.ready)
-  job_is = ap (λ (x : O.Opened). (opened_as x).job) opens
+  job_is : job_opened (open_of o w) ≡ held (M.job_of o w M.ready)
+  job_is = ap (λ (x : O.Opened). (job_opened (opened_as x))) opens
 
   starts : world_of device (begin q o w) [] ≡ L.begin q o w
   starts = ap (λ (j : Job). world_of device (record { job = j; words = q; answers = []; sent = [] }) []) job_is
@@ -181,7 +181,7 @@ module _ (device : Device) (q o w : List ℤ) (accepted : (open_of o w).opening 
 -- ---- DEMAND 3
 
 module _ (device : Device) (q o w : List ℤ) (d : List Event) (supposed : Supposed device q o w d) where
-  not_refused : (open_of o w).opening ≡ Accepted
+  not_refused : IsOk (open_of o w)
   not_refused = supposed.opened_truly.not_refused
 
   of_machine : S.Supposed O.pathfinder (pack_of device) q o w (moments device w d)
@@ -229,14 +229,14 @@ module _ (device : Device) (q o w : List ℤ) (d : List Event) (supposed : Suppo
   -- (b) "A restore opened on a fresh reading, if every frame gets its own reply and no other, finishes with exactly one write for each setting that
   -- still differs." It finishes once next was called in turn, with room for a frame, as often as left said at the opening; and whenever next says
   -- done it is so.
-  pub finishes : Answered device (begin q o w) d → left_of (open_of o w).job ≤ chances device (begin q o w) d → Finished o w (after_all device (begin q o w) d)
+  pub finishes : Answered device (begin q o w) d → left_of (job_opened (open_of o w)) ≤ chances device (begin q o w) d → Finished o w (after_all device (begin q o w) d)
   finishes own enough =
-      let first : left_of (open_of o w).job ≡ M.left 50 (M.job_of o w M.ready) = ap left_of (job_is device q o w not_refused) in
+      let first : left_of (job_opened (open_of o w)) ≡ M.left 50 (M.job_of o w M.ready) = ap left_of (job_is device q o w not_refused) in
       finished_is device q o w not_refused d
       (D.finishes (pack_of device) q o w (moments device w d) of_machine (to_answered device q o w not_refused d own)
       (omega (arith, first, same_chances device q o w not_refused d, enough)))
 
-  pub done_is_true : (n : ℕ) (room : List ℕ) → (next_of (scene n).job (length room)).step ≡ Done → Finished o w (scene n)
+  pub done_is_true : (n : ℕ) (room : List ℕ) → (next_of (scene n).job (length room)).step ≡ Ok Done → Finished o w (scene n)
   done_is_true n room e =
       let s = same device q o w not_refused (take n d) in
       let cut : L.after_all slots (pack_of device) (L.begin q o w) (take n (moments device w d)) ≡ L.after_all slots (pack_of device) (L.begin q o w) (moments device w (take n d)) =
@@ -252,15 +252,15 @@ module _ (device : Device) (q o w : List ℤ) (d : List Event) (supposed : Suppo
 
 -- from whatever cuts left, a restore towards the opening values brings every word back
 module _ (device : Device) (rule : WriteRule device) (o w : List ℤ) (p : Passed O.pathfinder o w) (q : List ℤ) (safe : Safe slots o w q) (in_range_lem : O.ranged O.pathfinder o ≡ true) where
-  pub opens_back : (open_of q o).opening ≡ Accepted
+  pub opens_back : IsOk (open_of q o)
   opens_back = opens_accepted q o (D.back o w p q safe in_range_lem)
 
   pub all_back : (b : List Event) → OnLine device (begin q q o) b → Answered device (begin q q o) b
-      → left_of (open_of q o).job ≤ chances device (begin q q o) b
+      → left_of (job_opened (open_of q o)) ≤ chances device (begin q q o) b
       → leaves device o q b ≡ o
   all_back b on own enough =
       let v : List ℤ = o in
-      let first : left_of (open_of q v).job ≡ M.left 50 (M.job_of q v M.ready) = ap left_of (job_is device q q v opens_back) in
+      let first : left_of (job_opened (open_of q v)) ≡ M.left 50 (M.job_of q v M.ready) = ap left_of (job_is device q q v opens_back) in
       sym (same_words device q q v opens_back b)
       ∙ D.all_back (pack_of device) (pack_obeys device rule) o w p q safe in_range_lem (moments device v b) (to_line device q q v opens_back b on) (to_answered device q q v opens_back b own)
       (omega (arith, first, same_chances device q q v opens_back b, enough))
@@ -270,19 +270,19 @@ module _ (device : Device) (q o w : List ℤ) (d : List Event) (supposed : Suppo
   abbrev found : List ℤ
   found = (scene device q o w d supposed n).words
 
-  pub opens_towards_opening : (open_of found o).opening ≡ Accepted
+  pub opens_towards_opening : IsOk (open_of found o)
   opens_towards_opening =
       opens_back device supposed.write_rule o w (passed_opening device q o w d supposed) found (cut_anywhere device q o w d supposed n) in_range_lem
 
   pub brings_back : (b : List Event) → OnLine device (begin found found o) b → Answered device (begin found found o) b
-      → left_of (open_of found o).job ≤ chances device (begin found found o) b
+      → left_of (job_opened (open_of found o)) ≤ chances device (begin found found o) b
       → leaves device o found b ≡ o
   brings_back b on own enough =
       all_back device supposed.write_rule o w (passed_opening device q o w d supposed) found (cut_anywhere device q o w d supposed n) in_range_lem b on own enough
 
 -- (d) As its user lives it: any number of cut restores one after the other, each opened on a fresh reading, and then one that is not cut. Only the first
 -- opening is supposed not to be refused.
-module _ (device : Device) (rule : WriteRule device) (o w : List ℤ) (first : (open_of o w).opening ≡ Accepted) where
+module _ (device : Device) (rule : WriteRule device) (o w : List ℤ) (first : IsOk (open_of o w)) where
   first_passed : Passed O.pathfinder o w
   first_passed = passed O.pathfinder o w (accepted_opens o w first)
 
@@ -290,7 +290,7 @@ module _ (device : Device) (rule : WriteRule device) (o w : List ℤ) (first : (
   unmoved = record { long = refl; either = λ n i. inl refl; side = first_passed.present; others = λ n out. refl }
 
   module _ (q : List ℤ) (safe : Safe slots o w q) where
-    again : (open_of q w).opening ≡ Accepted
+    again : IsOk (open_of q w)
     again = opens_accepted q w (D.again (pack_of device) (pack_obeys device rule) o w first_passed q safe)
 
     further : (r : List ℤ) → Safe slots q w r → Safe slots o w r
@@ -322,7 +322,7 @@ module _ (device : Device) (rule : WriteRule device) (o w : List ℤ) (first : (
     safe_before_last = (each_night ds o unmoved nights).1
 
     -- so does the last one
-    pub last_opens : (open_of last_found w).opening ≡ Accepted
+    pub last_opens : IsOk (open_of last_found w)
     last_opens = again last_found safe_before_last
 
     module _ (d : List Event) (on : OnLine device (begin last_found last_found w) d) where
@@ -335,7 +335,7 @@ module _ (device : Device) (rule : WriteRule device) (o w : List ℤ) (first : (
 
       -- and, not cut, it finishes at the wanted values, with one frame for each setting that still differed, and has moved nothing else
       pub last_finishes : Answered device (begin last_found last_found w) d
-          → left_of (open_of last_found w).job ≤ chances device (begin last_found last_found w) d
+          → left_of (job_opened (open_of last_found w)) ≤ chances device (begin last_found last_found w) d
           → Finished last_found w (after_all device (begin last_found last_found w) d) × Safe slots o w (leaves device w last_found d)
       last_finishes own enough = (
         finishes device last_found last_found w d last_supposed own enough,
@@ -344,11 +344,11 @@ module _ (device : Device) (rule : WriteRule device) (o w : List ℤ) (first : (
 
     -- (c) again, after all these cut nights: a restore towards the values before the first of them opens, and brings all 50 words back
     module _ (in_range_lem : O.ranged O.pathfinder o ≡ true) where
-      pub nights_open_back : (open_of last_found o).opening ≡ Accepted
+      pub nights_open_back : IsOk (open_of last_found o)
       nights_open_back = opens_back device rule o w first_passed last_found safe_before_last in_range_lem
 
       pub nights_brought_back : (b : List Event) → OnLine device (begin last_found last_found o) b
           → Answered device (begin last_found last_found o) b
-          → left_of (open_of last_found o).job ≤ chances device (begin last_found last_found o) b
+          → left_of (job_opened (open_of last_found o)) ≤ chances device (begin last_found last_found o) b
           → leaves device o last_found b ≡ o
       nights_brought_back b on own enough = all_back device rule o w first_passed last_found safe_before_last in_range_lem b on own enough

@@ -3,16 +3,15 @@
 use mathlib.Core.Path.{◌≡◌, refl, sym, ap, ◌∙◌}
 use mathlib.Core.Bool.{Bool, true, false}
 use mathlib.Core.List.{List, [], ◌∷◌, ◌++◌}
-use Prim.Native.Nat.{ℕ, ◌+◌, ◌<◌, ◌≤◌, ◌^◌}
-use native.Mathlib.Omega.{arith}
+use Prim.Native.Nat.{ℕ, ◌<◌, ◌≤◌, ◌^◌}
 use lib.IntN.{ℤ}
 use lib.Dec.{ltb}
 use lib.Signed.{mag}
 use lib.ListN.{length, drop}
 use borrow.Author.Tests.{ltb-false}
+use Rattle.std.specs.Prelude.{Result, Ok, Err}
 use Rattle.laws.proofs.Ladders.{both}
-use Rattle.refusals.specs.declared.Written.{Written}
-use Rattle.refusals.specs.declared.Written.TheVariants.{Frame as HasFrame, Refused as NoFrame}
+use Rattle.refusals.specs.declared.Refusal.{Refusal}
 use Rattle.numbers.specs.declared.Order.TheVariants.{LowFirst}
 use Rattle.numbers.specs.Bytes.{bytes_of}
 use Rattle.signs.specs.Signed.{bits_of}
@@ -22,7 +21,6 @@ use Rattle.registers_pathfinder.proofs.Words.{in_range_known, fits_word}
 use Rattle.requests_pathfinder.specs.declared.Request.TheVariants.{Write}
 use Rattle.requests_pathfinder.specs.Requests.{fault_of, sent_as}
 use Rattle.requests_pathfinder.proofs.Made.{goes_out_lem}
-use Rattle.requests_read_pathfinder.specs.declared.Parsed.TheVariants.{Is}
 use Rattle.requests_read_pathfinder.specs.Reading.{request_of}
 use Rattle.requests_read_pathfinder.proofs.RoundTrip.{written_reads_back_request}
 use Rattle.restore_order.specs.Slots.{slots, at, writes, is_in}
@@ -61,9 +59,9 @@ opened_in_range o w e n i = (passed pathfinder o w e).in_range_lem n (in_below 5
 pub next_keeps_wanted : (j : Job) (places : ℕ) (a : M.Asked) → (step_for j places a).job.wanted ≡ j.wanted
 next_keeps_wanted j places (M.write r v) = go (sent_as (Write r v) places)
   where
-    go : (x : Written) → (sent_of j (held (M.after_asked (M.write r v) (machine j))) x).job.wanted ≡ j.wanted
-    go (HasFrame n) = refl
-    go (NoFrame why) = refl
+    go : (x : Result ℕ Refusal) → (sent_of j (held (M.after_asked (M.write r v) (machine j))) x).job.wanted ≡ j.wanted
+    go (Ok n) = refl
+    go (Err why) = refl
 next_keeps_wanted j places M.done = refl
 next_keeps_wanted j places (M.declined why) = refl
 
@@ -90,11 +88,11 @@ pub record Writes (j : Job) (places r : ℕ) (v : ℤ) : Type 0 where
 
 module _ (places r : ℕ) (v : ℤ) where
   offered_write : (w : List ℤ) (ws : List ℕ) → M.offered places w ws ≡ M.write r v → (rest : List ℕ) × ((ws ≡ r ∷ rest) × ((v ≡ at w r) × (11 ≤ places)))
-  offered_write w [] e = let z : ◌≡◌ {A = ℕ} 0 1 = cc in absurd (omega arith)
+  offered_write w [] e = absurd cc
   offered_write w (x ∷ rest) e = go (ltb places 11) refl e
     where
       go : (b : Bool) → ltb places 11 ≡ b → M.unless b x (at w x) ≡ M.write r v → (l : List ℕ) × ((x ∷ rest ≡ r ∷ l) × ((v ≡ at w r) × (11 ≤ places)))
-      go true h q = let z : ◌≡◌ {A = ℕ} 0 1 = cc in absurd (omega arith)
+      go true h q = absurd cc
       go false h q =
           let f : x ≡ r = cc in
           let g : at w x ≡ v = cc in
@@ -104,8 +102,8 @@ module _ (places r : ℕ) (v : ℤ) where
   asked_write p w Ready e =
       let o = offered_write w (writes slots p w) e in
       (first_in slots p w r o.0 o.1.0, o.1.1)
-  asked_write p w (Waiting n) e = let z : ◌≡◌ {A = ℕ} 0 1 = cc in absurd (omega arith)
-  asked_write p w Stopped e = let z : ◌≡◌ {A = ℕ} 0 1 = cc in absurd (omega arith)
+  asked_write p w (Waiting n) e = absurd cc
+  asked_write p w Stopped e = absurd cc
 
 pub writes_what : (j : Job) (places r : ℕ) (v : ℤ) → M.asked slots places (machine j) ≡ M.write r v → Writes j places r v
 writes_what j places r v e =
@@ -119,7 +117,7 @@ module _ (r : ℕ) (v : ℤ) (h : allows pathfinder r v ≡ true) where
   tests = both (in_range r v) (fits_type r v) h
 
   -- the writer of requests takes it
-  pub no_fault : fault_of (Write r v) ≡ 0
+  pub no_fault : fault_of (Write r v) ≡ Ok tt
   unfolding fault_of
   no_fault = rw (in_range_known r v tests.0, tests.0)
 
@@ -127,7 +125,7 @@ module _ (r : ℕ) (v : ℤ) (h : allows pathfinder r v ≡ true) where
   pub small : mag v < 2 ^ 31
   small = fits_word r v tests.1
 
-  takes : (places : ℕ) → 11 ≤ places → sent_as (Write r v) places ≡ HasFrame 11
+  takes : (places : ℕ) → 11 ≤ places → sent_as (Write r v) places ≡ Ok 11
   takes places enough = sym (goes_out_lem (Write r v) places no_fault enough)
 
 module _ (j : Job) (ranged : Ranged j) (places r : ℕ) (v : ℤ) (e : M.asked slots places (machine j) ≡ M.write r v) where
@@ -138,7 +136,7 @@ module _ (j : Job) (ranged : Ranged j) (places r : ℕ) (v : ℤ) (e : M.asked s
   in_range_lem = rw facts.value (ranged r facts.setting)
 
   -- one frame, then waiting
-  pub one_frame : ◌≡◌ {A = Stepped} (next_of j places) (record { step = Frame 11; job = held (M.after_asked (M.write r v) (machine j)) })
+  pub one_frame : ◌≡◌ {A = Stepped} (next_of j places) (record { step = Ok (Frame 11); job = held (M.after_asked (M.write r v) (machine j)) })
   one_frame = rw (e, takes r v in_range_lem places facts.enough)
 
   -- it is the frame of request 0E with the register and the four bytes of the value, and the bytes after it keep their contents
@@ -146,7 +144,7 @@ module _ (j : Job) (ranged : Ranged j) (places r : ℕ) (v : ℤ) (e : M.asked s
   its_bytes out h = rw (h, e, h, takes r v in_range_lem places facts.enough)
 
   -- which the reader of requests reads back as that register and value
-  pub reads_back : request_of (frame_bytes 0x0E (r ∷ bytes_of LowFirst 4 (bits_of 32 v))) ≡ Is (Write r v)
+  pub reads_back : request_of (frame_bytes 0x0E (r ∷ bytes_of LowFirst 4 (bits_of 32 v))) ≡ Ok (Write r v)
   reads_back = written_reads_back_request (Write r v) (small r v in_range_lem) (no_fault r v in_range_lem)
 
 -- ---- each call is a step of the machine

@@ -7,8 +7,8 @@ use Prim.Native.Nat.{ℕ}
 use borrow.Author.Tests.{eq-eqb}
 use lib.IntN.{ℤ}
 use lib.Dec.{ltb}
-use Rattle.refusals.specs.declared.Written.{Written}
-use Rattle.refusals.specs.declared.Written.TheVariants.{Frame, Refused}
+use Rattle.std.specs.Prelude.{Result, Ok, Err}
+use Rattle.refusals.specs.declared.Refusal.{Refusal}
 use Rattle.requests_pathfinder.specs.declared.Request.TheVariants.{Write}
 use Rattle.requests_pathfinder.specs.Requests.{sent_as}
 use Rattle.restore_order.specs.Slots.{at, writes, sides, slots}
@@ -21,14 +21,15 @@ use Rattle.restore_jobs.specs.Jobs.{opened_as, open_of}
 use Rattle.restore_next.specs.Next.{sent_of, step_for, next_of}
 use Rattle.restore_reply.specs.Reply.{heard_as, heard_of, read_as}
 use Rattle.restore_bytes.specs.Jobs.{is_first, phase_stands, stands}
+use Rattle.restore_pathfinder.specs.Wire.{job_opened}
 
 -- ---- open
 
-pub opened_stands : (o w : List ℤ) → stands (open_of o w).job ≡ true
+pub opened_stands : (o w : List ℤ) → stands (job_opened (open_of o w)) ≡ true
 unfolding opening stands
 opened_stands o w = go (shapely pathfinder o w) (unmoved pathfinder o w) (ranged pathfinder w) (sides slots w) (sides slots o)
   where
-    go : (a b c d e : Bool) → stands (opened_as (in_order a b c d e (M.job_of o w M.ready))).job ≡ true
+    go : (a b c d e : Bool) → stands (job_opened (opened_as (in_order a b c d e (M.job_of o w M.ready)))) ≡ true
     go false b c d e = refl
     go true false c d e = refl
     go true true false d e = refl
@@ -42,11 +43,11 @@ module _ (p w : List ℤ) (n : ℕ) where
   abbrev between : Job
   between = record { present = p; wanted = w; phase = Ready }
 
-  sent_stands : (r : ℕ) (rest : List ℕ) → writes slots p w ≡ r ∷ rest → (x : Written)
+  sent_stands : (r : ℕ) (rest : List ℕ) → writes slots p w ≡ r ∷ rest → (x : Result ℕ Refusal)
       → stands (sent_of between (record { present = p; wanted = w; phase = Waiting r }) x).job ≡ true
   unfolding stands
-  sent_stands r rest e (Frame k) = ap (is_first r) e ∙ eq-eqb r r refl
-  sent_stands r rest e (Refused why) = refl
+  sent_stands r rest e (Ok k) = ap (is_first r) e ∙ eq-eqb r r refl
+  sent_stands r rest e (Err why) = refl
 
   asked_stands : (r : ℕ) (rest : List ℕ) → writes slots p w ≡ r ∷ rest → (small : Bool) → stands (step_for between n (M.unless small r (at w r))).job ≡ true
   unfolding stands

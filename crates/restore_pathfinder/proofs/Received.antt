@@ -2,8 +2,9 @@
 -- frame written is read back, and the reader's rules. Assumes nothing.
 use mathlib.Core.Path.{◌≡◌, refl, sym, ap, ◌∙◌}
 use mathlib.Core.Bool.{true}
-use mathlib.Core.List.{[], ◌∷◌}
+use mathlib.Core.List.{[]}
 use Prim.Native.Nat.{ℕ}
+use Rattle.std.specs.Prelude.{Result}
 use Rattle.checks.specs.Crc.{shift, shifts, crc_from, crc_of}
 use Rattle.frames_pathfinder.specs.declared.Frame.{Frame}
 use Rattle.frames_written_pathfinder.specs.Writing.{frame_bytes}
@@ -13,6 +14,7 @@ use Rattle.records_pathfinder.specs.Replies.{judged, of_frame, reply_of}
 use Rattle.restore_order.specs.Machine as M
 use Rattle.restore_reply.specs.Reply.{decoded_of, read_as}
 use Rattle.restore_pathfinder.specs.Wire.{success_frame}
+use Rattle.refusals.specs.declared.Refusal.{Refusal}
 
 -- FE 01 0E D2 FF FD is the frame of 0E without data
 pub success_is_its_frame : success_frame ≡ frame_bytes 0x0E []
@@ -22,7 +24,7 @@ success_is_its_frame = refl
 -- a frame without data goes by its opcode
 by_opcode : (op : ℕ) → read_as (frame_bytes op []) ≡ decoded_of (judged 0x0E op 0 0 0)
 unfolding reply_of
-by_opcode op = ap (λ (f : Frame). decoded_of (of_frame 0x0E 0 0 f)) (sym (frame_reads_back op []))
+by_opcode op = ap (λ (f : Result Frame Refusal). decoded_of (of_frame 0x0E 0 0 f)) (sym (frame_reads_back op []))
 
 pub success_is_read : read_as success_frame ≡ M.success
 unfolding judged kind_of is_failure is_listed shape_of

@@ -3,12 +3,14 @@
 use mathlib.Core.Path.{◌≡◌, refl, sym, ap, ap₂, ◌∙◌}
 use mathlib.Core.Bool.{Bool, true, false}
 use mathlib.Core.List.{List, [], ◌∷◌, ◌++◌, map, map-append}
-use mathlib.Core.Logic.{◌⊎◌, inl, inr, ⊎_elim}
+use mathlib.Core.Logic.{inl, inr, ⊎_elim}
 use Prim.Native.Nat.{ℕ, zero, suc, ◌+◌}
 use lib.IntN.{ℤ}
 use lib.ListN.{length, take, drop}
 use lib.Seq.{take_at}
+use Rattle.std.specs.Prelude.{Result}
 use Rattle.frames_written_pathfinder.specs.Writing.{frame_bytes}
+use Rattle.refusals.specs.declared.Refusal.{Refusal}
 use Rattle.restore_order.specs.Slots.{slots, at}
 use Rattle.restore_order.specs.Machine as M
 use Rattle.restore_order.specs.Opening.{pathfinder, allows}
@@ -45,7 +47,7 @@ goes_out_is j ranged room = go (M.asked slots (length room) (machine j)) refl
   where
     go : (a : M.Asked) → M.asked slots (length room) (machine j) ≡ a → goes_out j room ≡ as_frames a
     go (M.write r v) e =
-        ap₂ (λ (st : Step) (bytes : List ℕ). outgoing st bytes) (ap (λ (x : Stepped). x.step) (one_frame j ranged (length room) r v e))
+        ap₂ (λ (st : Result Step Refusal) (bytes : List ℕ). outgoing st bytes) (ap (λ (x : Stepped). x.step) (one_frame j ranged (length room) r v e))
         (its_bytes j ranged (length room) r v e room refl)
         ∙ ap (λ (f : List ℕ). f ∷ []) (take_at (write_frame r v) (drop 11 room) 11 (eleven r v))
     go M.done e = rw e

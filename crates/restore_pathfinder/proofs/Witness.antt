@@ -9,9 +9,10 @@ use Prim.Native.Nat.{ℕ, suc, ◌≤◌}
 use native.Mathlib.Omega.{arith}
 use lib.IntN.{ℤ, pos}
 use lib.ListN.{length, replicate, set}
+use Rattle.std.specs.Prelude.{Result, Ok, Err, IsOk, is_ok}
 use Rattle.laws.specs.Choice.{pick}
 use Rattle.checks.specs.Crc.{shift, shifts, crc_from, crc_of}
-use Rattle.refusals.specs.Refused.{refused_with, checksum}
+use Rattle.refusals.specs.declared.Refusal.TheVariants as refusal
 use Rattle.refusals.specs.declared.Refusal.{Refusal}
 use Rattle.frames_pathfinder.specs.Reading.{frame_of}
 use Rattle.refusals.specs.Writing.{written_as}
@@ -20,8 +21,6 @@ use Rattle.registers_pathfinder.specs.Registers.{registers, is_register, in_rang
 use Rattle.opcodes_pathfinder.specs.Opcodes.{is_failure, is_listed, kind_of, shape_of}
 use Rattle.records_pathfinder.specs.Replies.{judged, reply_of}
 use Rattle.requests_pathfinder.specs.declared.Request.TheVariants.{Ask, Write}
-use Rattle.requests_read_pathfinder.specs.declared.Parsed.{Parsed}
-use Rattle.requests_read_pathfinder.specs.declared.Parsed.TheVariants.{Is, Refused}
 use Rattle.requests_pathfinder.specs.Requests.{fault_of}
 use Rattle.requests_read_pathfinder.specs.Reading.{parsed_set, parsed_of, request_of}
 use Rattle.requests_read_pathfinder.proofs.RoundTrip.{written_reads_back_request}
@@ -37,7 +36,6 @@ use Rattle.restore_order.proofs.Demand3 as D
 use Rattle.restore_order.proofs.Witness.{present, wanted, p11_opens}
 use Rattle.restore_jobs.specs.declared.Phase.TheVariants.{Stopped}
 use Rattle.restore_jobs.specs.declared.Job.{Job}
-use Rattle.restore_jobs.specs.declared.Opening.TheVariants.{Accepted}
 use Rattle.restore_next.specs.declared.Stepped.{Stepped}
 use Rattle.restore_jobs.specs.Jobs.{phase_of, machine, held, opened_as, open_of, left_of}
 use Rattle.restore_next.specs.Next.{next_of}
@@ -48,15 +46,17 @@ use Rattle.restore_pathfinder.proofs.Frames.{Ranged, no_fault, small, one_frame}
 use Rattle.restore_pathfinder.proofs.Received.{success_is_read, failure_is_read}
 use Rattle.restore_pathfinder.proofs.Shadows.{pack_of, pack_obeys, as_frames, goes_out_is}
 use Rattle.restore_pathfinder.proofs.Demand3.{accepted_opens}
+use Rattle.restore_pathfinder.specs.Wire.{job_opened}
+use Rattle.requests_pathfinder.specs.declared.Request.{Request}
 
 -- ---- a pack
 
 -- it reads a request as the request reader does, obeys a write, which moves a word if its register is a setting's, and answers bytes that are no
 -- request with the failure 24
-abbrev pub reaction : List ℤ → Parsed → Reaction
-reaction q (Is (Write r v)) = record { words = pick (is_in r slots) (set q r v) q; reply = success_frame }
-reaction q (Is (Ask op)) = record { words = q; reply = frame_bytes 0x21 [] }
-reaction q (Refused why) = record { words = q; reply = frame_bytes 0x24 [] }
+abbrev pub reaction : List ℤ → Result Request Refusal → Reaction
+reaction q (Ok (Write r v)) = record { words = pick (is_in r slots) (set q r v) q; reply = success_frame }
+reaction q (Ok (Ask op)) = record { words = q; reply = frame_bytes 0x21 [] }
+reaction q (Err why) = record { words = q; reply = frame_bytes 0x24 [] }
 
 pub plain : Device
 plain q s = reaction q (request_of s)
@@ -67,7 +67,7 @@ plain_obeys q r v long i e =
     ap (reaction q) (written_reads_back_request (Write r v) (small r v e) (no_fault r v e)) ∙ rw i
 
 -- a frame spoilt on the way changes nothing
-pub plain_answers_spoilt : (q : List ℤ) (s : List ℕ) (why : Refusal) → request_of s ≡ Refused why → plain q s ≡ record { words = q; reply = frame_bytes 0x24 [] }
+pub plain_answers_spoilt : (q : List ℤ) (s : List ℕ) (why : Refusal) → request_of s ≡ Err why → plain q s ≡ record { words = q; reply = frame_bytes 0x24 [] }
 unfolding plain
 plain_answers_spoilt q s why e = ap (reaction q) e
 
@@ -284,13 +284,13 @@ module _ (device : Device) (rule : WriteRule device) (o w : List ℤ) (p : Passe
 -- a run to its end: what is supposed is met, each frame gets its own reply, and next is called often enough
 abbrev pub WholeRun : Device → List ℤ → List ℤ → Type 0
 WholeRun device o w =
-    (d : List Event) × (Supposed device o o w d × (Answered device (begin o o w) d × (left_of (open_of o w).job ≤ chances device (begin o o w) d)))
+    (d : List Event) × (Supposed device o o w d × (Answered device (begin o o w) d × (left_of (job_opened (open_of o w)) ≤ chances device (begin o o w) d)))
 
 -- a run that a device failure stops: what is supposed is met, and the job is stopped
 abbrev pub StoppedRun : Device → List ℤ → List ℤ → Type 0
 StoppedRun device o w = (d : List Event) × (Supposed device o o w d × ((after_all device (begin o o w) d).job.phase ≡ Stopped))
 
-module _ (device : Device) (rule : WriteRule device) (o w : List ℤ) (accepted : (open_of o w).opening ≡ Accepted) where
+module _ (device : Device) (rule : WriteRule device) (o w : List ℤ) (accepted : IsOk (open_of o w)) where
   opens : O.opening O.pathfinder o w ≡ O.opened (M.job_of o w M.ready)
   opens = accepted_opens o w accepted
 
@@ -299,7 +299,7 @@ module _ (device : Device) (rule : WriteRule device) (o w : List ℤ) (accepted 
 
   starts : between device rule o w p o [] [] ≡ begin o o w
   starts =
-      ap (λ (x : O.Opened). scene_with (opened_as x).job) (sym opens)
+      ap (λ (x : O.Opened). scene_with (job_opened (opened_as x))) (sym opens)
     where
       scene_with : Job → Scene
       scene_with j = record { job = j; words = o; answers = []; sent = [] }
@@ -318,7 +318,7 @@ module _ (device : Device) (rule : WriteRule device) (o w : List ℤ) (accepted 
       let d : List Event = dialogue device rule o w p ws o in
       let safe = (begins slots 50 50 (O.allows O.pathfinder) (pack_of device) (pack_obeys device rule) o w (t device rule o w p)).0 in
       let m : Meets device rule o w p (length ws) (between device rule o w p o [] []) d = meets device rule o w p ws o [] [] safe refl in
-      let left : left_of (open_of o w).job ≡ M.left 50 (M.job_of o w M.ready) = ap (λ (x : Scene). left_of x.job) (sym starts) in
+      let left : left_of (job_opened (open_of o w)) ≡ M.left 50 (M.job_of o w M.ready) = ap (λ (x : Scene). left_of x.job) (sym starts) in
       let enough : length ws ≤ chances device (begin o o w) d = subst (λ (x : Scene). length ws ≤ chances device x d) starts m.enough in (
         d,
         (
@@ -346,8 +346,8 @@ module _ (device : Device) (rule : WriteRule device) (o w : List ℤ) (accepted 
 
 -- ---- P11's pack, 55 and 50 to 70 and 60
 
-pub p11_accepted : (open_of present wanted).opening ≡ Accepted
-p11_accepted = ap (λ (x : O.Opened). (opened_as x).opening) p11_opens
+pub p11_accepted : IsOk (open_of present wanted)
+p11_accepted = ap (λ (x : O.Opened). is_ok (opened_as x)) p11_opens
 
 pub p11_whole : WholeRun plain present wanted
 p11_whole = some_run plain plain_obeys present wanted p11_accepted
@@ -366,7 +366,7 @@ spoilt = 0xFE ∷ 0x06 ∷ 0x0E ∷ 0x03 ∷ 0x47 ∷ 0x00 ∷ 0x00 ∷ 0x00 ∷
 
 pub p11_spoilt : plain present spoilt ≡ record { words = present; reply = frame_bytes 0x24 [] }
 unfolding request_of frame_of crc_of crc_from shifts shift
-p11_spoilt = plain_answers_spoilt present spoilt (refused_with checksum) refl
+p11_spoilt = plain_answers_spoilt present spoilt refusal.Checksum refl
 
 -- a run of it that is cut: too little room; 3 goes out and arrives; next out of turn; a reply with a wrong checksum; the reply itself; 4 goes out, never
 -- arrives, and the restore is cut. All of it computed, to the checksums

@@ -1,9 +1,8 @@
 -- What demand 3 asks, read at the level of calls and bytes, of a restore of a pack that held o towards the wanted values w. `Safe` speaks of the words
 -- that the pack holds, and is that of `restore_order`; here is what it asks of the frames, and of restores one after the other.
-use Rattle.std.specs.Prelude.{◌≡◌, Bool, true, false, ◌&&◌, List, [], ◌∷◌, map, ℕ, ◌+◌, ◌<◌, ℤ, eqb, length, take}
+use Rattle.std.specs.Prelude.{◌≡◌, Bool, true, false, ◌&&◌, List, [], ◌∷◌, map, ℕ, ◌+◌, ◌<◌, ℤ, eqb, length, take, Ok, IsOk}
 use Rattle.restore_order.specs.Slots.{slots, at, differs, writes, one, how_many}
 use Rattle.restore_order.specs.Demands.{Safe}
-use Rattle.restore_jobs.specs.declared.Opening.TheVariants.{Accepted}
 use Rattle.restore_next.specs.declared.Step.TheVariants.{Done}
 use Rattle.restore_jobs.specs.Jobs.{open_of}
 use Rattle.restore_next.specs.Next.{next_of}
@@ -28,7 +27,7 @@ frame_to w r = write_frame r (at w r)
 
 -- of a restore that has come to its end: "finishes with exactly one write for each setting that still differs"
 pub record Finished (o w : List ℤ) (x : Scene) : Type 0 where
-  pub says_done : (room : List ℕ) → (next_of x.job (length room)).step ≡ Done
+  pub says_done : (room : List ℕ) → (next_of x.job (length room)).step ≡ Ok Done
   -- the very bytes of what went out, in order
   pub frames : x.sent ≡ map (frame_to w) (writes slots o w)
   pub one_frame_each : (n : ℕ) → n < 50 → occurrences (frame_to w n) x.sent ≡ one (differs o w n)
@@ -54,4 +53,4 @@ module _ (device : Device) (w : List ℤ) where
   abbrev pub AllSafe : List ℤ → List ℤ → List (List Event) → Type 0
   AllSafe o q [] = Unit {0}
   AllSafe o q (d ∷ ds) =
-      ((open_of q w).opening ≡ Accepted) × ((n : ℕ) → Safe slots o w (leaves q (take n d))) × AllSafe o (leaves q d) ds
+      (IsOk (open_of q w)) × ((n : ℕ) → Safe slots o w (leaves q (take n d))) × AllSafe o (leaves q d) ds

@@ -1,12 +1,11 @@
 -- What demand 3 supposes of a restore, read at the level of calls and bytes: each supposition a definition, under the words of demand 3 that it states.
 -- That all of them can be met at once is shown in proofs/Witness.antt.
-use Rattle.std.specs.Prelude.{◌≡◌, Bool, true, false, ◌&&◌, List, [], ◌∷◌, ◌⊎◌, ℕ, ◌+◌, ℤ, leb, length}
+use Rattle.std.specs.Prelude.{◌≡◌, Bool, true, false, ◌&&◌, List, [], ◌∷◌, ◌⊎◌, ℕ, ◌+◌, ℤ, leb, length, Result, Ok, Err, IsOk}
 use Rattle.restore_order.specs.Slots.{one}
 use Rattle.restore_order.specs.Suppositions.{Idle, in_turn}
-use Rattle.restore_jobs.specs.declared.Opening.TheVariants.{Accepted}
 use Rattle.restore_reply.specs.declared.Outcome.TheVariants.{Written as Marked, Failure}
-use Rattle.restore_reply.specs.declared.Answer.{Answer}
-use Rattle.restore_reply.specs.declared.Answer.TheVariants.{Taken as IsTaken, Refused as IsRefused}
+use Rattle.restore_reply.specs.declared.Outcome.{Outcome}
+use Rattle.refusals.specs.declared.Refusal.{Refusal}
 use Rattle.restore_jobs.specs.Jobs.{phase_of, open_of}
 use Rattle.restore_reply.specs.Reply.{heard_of}
 use Rattle.restore_pathfinder.specs.Wire.{Device, WriteRule, Scene, begin, Event, next, reply, goes_out, after, after_all}
@@ -29,10 +28,10 @@ module _ (device : Device) where
 
   -- "each reply taken answers the frame just sent": the bytes s are refused, so that nothing is taken, or they are the pack's answer to that frame.
   -- Where the frame never reached the pack as it was sent, because it was spoilt on the way, the answer can only be a device failure
-  abbrev pub Taken : List (List ℕ) → List ℕ → Answer → Type 0
-  Taken line s (IsTaken Marked) = line ≡ s ∷ []
-  Taken line s (IsTaken (Failure code)) = (line ≡ s ∷ []) ⊎ (line ≡ [])
-  Taken line s (IsRefused why) = Unit {0}
+  abbrev pub Taken : List (List ℕ) → List ℕ → Result Outcome Refusal → Type 0
+  Taken line s (Ok Marked) = line ≡ s ∷ []
+  Taken line s (Ok (Failure code)) = (line ≡ s ∷ []) ⊎ (line ≡ [])
+  Taken line s (Err why) = Unit {0}
 
   abbrev pub AnswersFrameSent : Scene → Event → Type 0
   AnswersFrameSent x (next room reached q) = Unit {0}
@@ -76,7 +75,7 @@ module _ (device : Device) where
 -- "the restore opened on a true reading": the words o that it was opened on are those that the pack holds, and open did not refuse
 pub record OpenedTruly (q o w : List ℤ) : Type 0 where
   pub true_reading : o ≡ q
-  pub not_refused : (open_of o w).opening ≡ Accepted
+  pub not_refused : IsOk (open_of o w)
 
 -- all that is supposed, of a pack that holds q, a restore opened on the reading o towards w, and its dialogue d
 pub record Supposed (device : Device) (q o w : List ℤ) (d : List Event) : Type 0 where

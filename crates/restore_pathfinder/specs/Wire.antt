@@ -1,6 +1,6 @@
 -- The pack at the other end of the wire, which reads and answers bytes, and a restore of it call by call: what goes into each call, what goes out
 -- over the wire, and what the pack holds afterwards. A dialogue may be cut anywhere, that is be a list of any length.
-use Rattle.std.specs.Prelude.{◌≡◌, Bool, true, List, [], ◌∷◌, ◌++◌, ℕ, ℤ, length, take, set}
+use Rattle.std.specs.Prelude.{◌≡◌, Bool, true, List, [], ◌∷◌, ◌++◌, ℕ, ℤ, length, take, set, Result, Ok, Err}
 use Rattle.laws.specs.Choice.{pick}
 use Rattle.numbers.specs.declared.Order.TheVariants.{LowFirst}
 use Rattle.numbers.specs.Bytes.{bytes_of}
@@ -10,10 +10,11 @@ use Rattle.restore_order.specs.Slots.{is_in, slots}
 use Rattle.restore_order.specs.Opening.{pathfinder, allows}
 use Rattle.restore_jobs.specs.declared.Job.{Job}
 use Rattle.restore_next.specs.declared.Step.{Step}
-use Rattle.restore_next.specs.declared.Step.TheVariants.{Frame, Done, Refused as NoStep}
-use Rattle.restore_jobs.specs.Jobs.{open_of}
+use Rattle.restore_next.specs.declared.Step.TheVariants.{Frame, Done}
+use Rattle.restore_jobs.specs.Jobs.{no_job, open_of}
 use Rattle.restore_next.specs.Next.{next_of, room_of}
 use Rattle.restore_reply.specs.Reply.{heard_of}
+use Rattle.refusals.specs.declared.Refusal.{Refusal}
 
 -- ---- the pack
 
@@ -53,9 +54,14 @@ pub record Scene : Type 0 where
   pub answers : List (List ℕ)
   pub sent : List (List ℕ)
 
+-- the job that opening gives; after a refusal one that wants nothing
+abbrev pub job_opened : Result Job Refusal → Job
+job_opened (Ok j) = j
+job_opened (Err why) = no_job
+
 -- a restore just opened on the reading o, while the pack holds q
 abbrev pub begin : List ℤ → List ℤ → List ℤ → Scene
-begin q o w = record { job = (open_of o w).job; words = q; answers = []; sent = [] }
+begin q o w = record { job = job_opened (open_of o w); words = q; answers = []; sent = [] }
 
 -- one call, and what the pack holds afterwards: next with this room, where a frame that goes out reaches the pack or does not; or reply with these
 -- bytes, whatever they are
@@ -64,10 +70,10 @@ pub data Event : Type 0 where
   reply : List ℕ → List ℤ → Event
 
 -- the frame that goes out after next: so many bytes of the room
-abbrev pub outgoing : Step → List ℕ → List (List ℕ)
-outgoing (Frame n) room = take n room ∷ []
-outgoing Done room = []
-outgoing (NoStep why) room = []
+abbrev pub outgoing : Result Step Refusal → List ℕ → List (List ℕ)
+outgoing (Ok (Frame n)) room = take n room ∷ []
+outgoing (Ok Done) room = []
+outgoing (Err why) room = []
 
 abbrev pub goes_out : Job → List ℕ → List (List ℕ)
 goes_out j room = outgoing (next_of j (length room)).step (room_of j room)

@@ -1,8 +1,9 @@
 -- What reply gives (01, Restore): what the machine of `restore_order` hears, and the step as this crate's types say it.
-use Rattle.std.specs.Prelude.{Bool, true, false, List, ℕ}
-use Rattle.refusals.specs.Refused.{refused_with, request, turn}
+use Rattle.std.specs.Prelude.{Bool, true, false, List, ℕ, Result, Ok, Err}
+use Rattle.refusals.specs.declared.Refusal.{Refusal}
+use Rattle.refusals.specs.declared.Refusal.TheVariants as refusal
 use Rattle.records_pathfinder.specs.declared.Reply.{Reply}
-use Rattle.records_pathfinder.specs.declared.Reply.TheVariants.{Words, Name, Written as IsWritten, Failure as IsFailure, Refused as IsRefused}
+use Rattle.records_pathfinder.specs.declared.Reply.TheVariants.{Words, Name, Written as IsWritten, Failure as IsFailure}
 use Rattle.records_pathfinder.specs.Replies.{reply_of}
 use Rattle.restore_order.specs.Machine as M
 use Rattle.restore_jobs.specs.declared.Phase.{Phase}
@@ -10,8 +11,7 @@ use Rattle.restore_jobs.specs.declared.Phase.TheVariants.{Ready, Waiting, Stoppe
 use Rattle.restore_jobs.specs.declared.Job.{Job}
 use Rattle.restore_jobs.specs.Jobs.{phase_of, machine, held}
 use Rattle.restore_reply.specs.declared.Outcome.TheVariants.{Written as Marked, Failure}
-use Rattle.restore_reply.specs.declared.Answer.{Answer}
-use Rattle.restore_reply.specs.declared.Answer.TheVariants.{Taken, Refused}
+use Rattle.restore_reply.specs.declared.Outcome.{Outcome}
 use Rattle.restore_reply.specs.declared.Heard.{Heard}
 
 -- a reply is due
@@ -21,26 +21,26 @@ is_waiting (Waiting r) = true
 is_waiting Stopped = false
 
 -- what a decoded reply to request 0E is to the machine; one with words or a name answers another request
-abbrev pub decoded_of : Reply → M.Answer
-decoded_of (Words n) = M.refused (refused_with request)
-decoded_of (Name n) = M.refused (refused_with request)
-decoded_of IsWritten = M.success
-decoded_of (IsFailure code) = M.failure code
-decoded_of (IsRefused why) = M.refused why
+abbrev pub decoded_of : Result Reply Refusal → M.Answer
+decoded_of (Ok (Words n)) = M.refused refusal.Request
+decoded_of (Ok (Name n)) = M.refused refusal.Request
+decoded_of (Ok IsWritten) = M.success
+decoded_of (Ok (IsFailure code)) = M.failure code
+decoded_of (Err why) = M.refused why
 
 -- what these bytes are to it
 abbrev pub read_as : List ℕ → M.Answer
 read_as s = decoded_of (reply_of 0x0E 0 0 s)
 
-abbrev pub answer_of : M.Answer → Answer
-answer_of M.success = Taken Marked
-answer_of (M.failure code) = Taken (Failure code)
-answer_of (M.refused why) = Refused why
+abbrev pub answer_of : M.Answer → Result Outcome Refusal
+answer_of M.success = Ok Marked
+answer_of (M.failure code) = Ok (Failure code)
+answer_of (M.refused why) = Err why
 
 -- what is heard of them: out of turn 14
-abbrev pub answer_in : Bool → List ℕ → Answer
+abbrev pub answer_in : Bool → List ℕ → Result Outcome Refusal
 answer_in true s = answer_of (read_as s)
-answer_in false s = Refused (refused_with turn)
+answer_in false s = Err refusal.Turn
 
 abbrev pub heard_as : Job → M.Answer → Heard
 heard_as j a = record { answer = answer_of (M.heard (phase_of j.phase) a); job = held (M.after_heard (machine j) a) }

@@ -3,14 +3,15 @@
 #![tactic(auto)]
 
 ghost use Rattle.std.specs.Prelude.{◌≡◌};
-ghost use Rattle.restore_order.specs.Slots.{at, put};
-ghost use Rattle.restore_reply.specs.Reply.{is_waiting, decoded_of, answer_of, read_as, answer_in, heard_of};
+ghost use Rattle.restore_order.specs.Slots.{put};
+ghost use Rattle.restore_reply.specs.Reply.{is_waiting, answer_of, read_as, answer_in, heard_of};
 
 use records_pathfinder::{Reply, read_reply};
-use refusals::{Refusal, refuse};
+use refusals::Refusal;
 use restore_jobs::{Job, Phase};
 
-#[derive(Clone, Copy)]
+// What the pack answered to a write.
+#[derive(Clone, Copy, Debug, PartialEq, Eq)]
 pub enum Outcome {
     // The register is written.
     Written,
@@ -18,16 +19,10 @@ pub enum Outcome {
     Failure(u8),
 }
 
-#[derive(Drop)]
-pub enum Answer {
-    Taken(Outcome),
-    Refused(Refusal),
-}
-
-// What reply gives.
-#[derive(Drop)]
+// What reply gives: an outcome or a refusal, and the job after it.
+#[derive(Clone, Copy, Debug, PartialEq, Eq)]
 pub struct Heard {
-    pub answer: Answer,
+    pub answer: Result<Outcome, Refusal>,
     pub job: Job,
 }
 
@@ -42,7 +37,7 @@ pub fn reply(job: Job, s: &[u8]) -> Heard
         return Heard { answer, job };
     };
     // A refused reply leaves the job waiting: its number, with the job as it was.
-    let Answer::Taken(outcome) = answer else {
+    let Ok(outcome) = answer else {
         return Heard { answer, job };
     };
     match outcome {
@@ -62,41 +57,27 @@ pub fn reply(job: Job, s: &[u8]) -> Heard
 fn is_waiting(phase: Phase) -> bool
     ensures { result ≡ is_waiting phase }
 {
-    match phase {
-        Phase::Ready => false,
-        Phase::Waiting(_) => true,
-        Phase::Stopped => false,
-    }
+    matches!(phase, Phase::Waiting(_))
 }
 
 // What is heard: out of turn 14, before the reply is read.
-fn hear(waiting: bool, s: &[u8]) -> Answer
+fn hear(waiting: bool, s: &[u8]) -> Result<Outcome, Refusal>
     ensures { result ≡ answer_in waiting s.now }
 {
     if !waiting {
-        return Answer::Refused(refuse(refusals::TURN));
+        return Err(Refusal::Turn);
     }
     decode(s)
 }
 
 // Reads the reply to a write.
-fn decode(s: &[u8]) -> Answer
+fn decode(s: &[u8]) -> Result<Outcome, Refusal>
     ensures { result ≡ answer_of (read_as s.now) }
 {
-    let mut row = [0i32; 0];
-    let mut name = [0u8; 0];
-    answer_of(read_reply(0x0E, s, &mut row, &mut name))
-}
-
-fn answer_of(decoded: Reply) -> Answer
-    ensures { result ≡ answer_of (decoded_of decoded) }
-{
-    match decoded {
-        Reply::Words(_) => Answer::Refused(refuse(refusals::REQUEST)),
-        Reply::Name(_) => Answer::Refused(refuse(refusals::REQUEST)),
-        Reply::Written => Answer::Taken(Outcome::Written),
-        Reply::Failure(code) => Answer::Taken(Outcome::Failure(code)),
-        Reply::Refused(why) => Answer::Refused(why),
+    match read_reply(0x0E, s, &mut [], &mut [])? {
+        Reply::Words(_) | Reply::Name(_) => Err(Refusal::Request),
+        Reply::Written => Ok(Outcome::Written),
+        Reply::Failure(code) => Ok(Outcome::Failure(code)),
     }
 }
 
@@ -104,35 +85,22 @@ fn answer_of(decoded: Reply) -> Answer
 fn marked(job: Job, register: u8) -> Job
     ensures { result ≡ record { present = put job.present job.wanted register; wanted = job.wanted; phase = Phase.Ready } }
 {
-    let wanted = job.wanted;
     let mut present = job.present;
     if register < 50 {
-        let value = wanted_value(wanted, register);
-        present[register as usize] = value;
+        present[register as usize] = job.wanted[register as usize];
     }
     Job {
         present,
-        wanted,
         phase: Phase::Ready,
+        ..job
     }
-}
-
-// The wanted value of a setting, 0 where there is none.
-fn wanted_value(wanted: [i32; 50], n: u8) -> i32
-    ensures { result ≡ at wanted n }
-{
-    if n < 50 { wanted[n as usize] } else { 0 }
 }
 
 fn stopped(job: Job) -> Job
     ensures { result ≡ record { present = job.present; wanted = job.wanted; phase = Phase.Stopped } }
 {
-    let present = job.present;
-    let wanted = job.wanted;
-    let phase = Phase::Stopped;
     Job {
-        present,
-        wanted,
-        phase,
+        phase: Phase::Stopped,
+        ..job
     }
 }

@@ -10,6 +10,7 @@ use native.Mathlib.Omega.{arith}
 use lib.IntN.{ℤ}
 use lib.Dec.{eqb, ltb}
 use borrow.Author.Tests.{eqb-true, ltb-true}
+use Rattle.std.specs.Prelude.{Option, Some, None}
 use Rattle.laws.specs.Choice.{pick}
 use Rattle.laws.specs.Every.{every}
 use Rattle.laws.proofs.Every.{every_at}
@@ -17,9 +18,6 @@ use Rattle.laws.proofs.Ladders.{both}
 use Rattle.restore_order.specs.Slots.{Slot, alone, pair, slots, differs, only_if, upper_first, in_pair, writes}
 use Rattle.restore_order.proofs.Integers.{clash}
 use Rattle.restore_order.proofs.Members.{or_right, either}
-use Rattle.restore_rules.specs.declared.First.TheVariants.{At, Nothing}
-use Rattle.restore_rules.specs.declared.Place.{Place}
-use Rattle.restore_rules.specs.declared.Place.TheVariants.{Pair, Alone}
 use Rattle.restore_rules.specs.Places.{place_at, slot_for, slot_at}
 use Rattle.restore_rules.specs.Rules.{first_of, in_turn}
 
@@ -32,30 +30,30 @@ from n (alone m ∷ s) = pick (ltb m n) (from n s) (alone m ∷ s)
 from n (pair u l ∷ s) = pick (ltb u n && ltb l n) (from n s) (pair u l ∷ s)
 
 -- they begin with the slot that has its place at n; or with a pair whose second setting n is
-abbrev leads : ℕ → List Slot → Place → Bool
+abbrev leads : ℕ → List Slot → Option (ℕ × ℕ) → Bool
 leads n [] x = false
-leads n (alone m ∷ s) (Pair a b) = false
-leads n (alone m ∷ s) Alone = eqb m n
-leads n (pair u l ∷ s) (Pair a b) = (eqb u a && eqb l b) && (eqb u n || eqb l n)
-leads n (pair u l ∷ s) Alone = (eqb u n && ltb l n) || (eqb l n && ltb u n)
+leads n (alone m ∷ s) (Some q) = false
+leads n (alone m ∷ s) None = eqb m n
+leads n (pair u l ∷ s) (Some q) = (eqb u q.0 && eqb l q.1) && (eqb u n || eqb l n)
+leads n (pair u l ∷ s) None = (eqb u n && ltb l n) || (eqb l n && ltb u n)
 
 all_lead : every 47 (λ n. leads n (from n slots) (place_at n)) ≡ true
 unfolding every place_at
 all_lead = refl
 
 -- the members of a pair are settings
-abbrev small : Place → Bool
-small (Pair u l) = ltb u 50 && ltb l 50
-small Alone = true
+abbrev small : Option (ℕ × ℕ) → Bool
+small (Some q) = ltb q.0 50 && ltb q.1 50
+small None = true
 
 all_small : every 47 (λ n. small (place_at n)) ≡ true
 unfolding every place_at
 all_small = refl
 
-pub members_below : (n u l : ℕ) → n < 47 → place_at n ≡ Pair u l → (u < 50) × (l < 50)
-members_below n u l h e =
-    let b = both (ltb u 50) (ltb l 50) (rw e at (every_at 47 (λ m. small (place_at m)) all_small n h)) in
-    (ltb-true u 50 b.0, ltb-true l 50 b.1)
+pub members_below : (n : ℕ) (q : ℕ × ℕ) → n < 47 → place_at n ≡ Some q → (q.0 < 50) × (q.1 < 50)
+members_below n q h e =
+    let b = both (ltb q.0 50) (ltb q.1 50) (rw e at (every_at 47 (λ m. small (place_at m)) all_small n h)) in
+    (ltb-true q.0 50 b.0, ltb-true q.1 50 b.1)
 
 -- ---- the first write
 
@@ -96,11 +94,11 @@ module _ (p w : List ℤ) where
 
   module _ (n : ℕ) (same : Same n) (changed : differs p w n ≡ true) where
     -- of a pair only one member differs
-    upper_alone : (first : Bool) (u l : ℕ) (rest : List ℕ) → first_of (in_pair first true false u l rest) ≡ At u
+    upper_alone : (first : Bool) (u l : ℕ) (rest : List ℕ) → first_of (in_pair first true false u l rest) ≡ Some u
     upper_alone true u l rest = refl
     upper_alone false u l rest = refl
 
-    lower_alone : (first : Bool) (u l : ℕ) (rest : List ℕ) → first_of (in_pair first false true u l rest) ≡ At l
+    lower_alone : (first : Bool) (u l : ℕ) (rest : List ℕ) → first_of (in_pair first false true u l rest) ≡ Some l
     lower_alone true u l rest = refl
     lower_alone false u l rest = refl
 
@@ -117,17 +115,17 @@ module _ (p w : List ℤ) where
     one_differs u l e =
         ⊎_elim (λ h. rw (eqb-true u n h, changed)) (λ h. rw (eqb-true l n h, changed) (or_right (differs p w u) true refl)) (either (eqb u n) (eqb l n) e)
 
-    found : (s : List Slot) (x : Place) → leads n s x ≡ true → first_of (writes s p w) ≡ first_of (writes (slot_for n x) p w)
+    found : (s : List Slot) (x : Option (ℕ × ℕ)) → leads n s x ≡ true → first_of (writes s p w) ≡ first_of (writes (slot_for n x) p w)
     unfolding writes
     found [] x e = clash e refl
-    found (alone m ∷ s) (Pair a b) e = clash e refl
-    found (alone m ∷ s) Alone e = rw (eqb-true m n e, changed)
-    found (pair u l ∷ s) (Pair a b) e =
-        let c = both (eqb u a && eqb l b) (eqb u n || eqb l n) e in
-        let d = both (eqb u a) (eqb l b) c.0 in
-        rw (← eqb-true u a d.0, ← eqb-true l b d.1)
+    found (alone m ∷ s) (Some q) e = clash e refl
+    found (alone m ∷ s) None e = rw (eqb-true m n e, changed)
+    found (pair u l ∷ s) (Some q) e =
+        let c = both (eqb u q.0 && eqb l q.1) (eqb u n || eqb l n) e in
+        let d = both (eqb u q.0) (eqb l q.1) c.0 in
+        rw (← eqb-true u q.0 d.0, ← eqb-true l q.1 d.1)
         (pair_first (upper_first p w u) (differs p w u) (differs p w l) u l (writes s p w) (one_differs u l c.1))
-    found (pair u l ∷ s) Alone e =
+    found (pair u l ∷ s) None e =
         ⊎_elim
         (λ (h : (eqb u n && ltb l n) ≡ true).
         let c = both (eqb u n) (ltb l n) h in
@@ -142,7 +140,7 @@ module _ (p w : List ℤ) where
       ap first_of (skipped n same slots)
       ∙ found n same changed (from n slots) (place_at n) (every_at 47 (λ m. leads m (from m slots) (place_at m)) all_lead n h)
 
-  pub none_found : Same 47 → first_of (writes slots p w) ≡ Nothing
+  pub none_found : Same 47 → first_of (writes slots p w) ≡ None
   unfolding writes
   none_found same = ap first_of (skipped 47 same slots)
 

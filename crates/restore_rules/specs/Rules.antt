@@ -1,13 +1,11 @@
--- What the order of writes gives (01, Restore), as this crate's type says it: the first of the writes to come.
+-- What the order of writes gives (01, Restore): the first of the writes to come.
 -- Assumes nothing.
-use Rattle.std.specs.Prelude.{List, [], ◌∷◌, ℕ, ℤ}
+use Rattle.std.specs.Prelude.{List, [], ◌∷◌, ℕ, ℤ, Option, Some, None}
 use Rattle.restore_order.specs.Slots.{differs, only_if}
-use Rattle.restore_rules.specs.declared.First.{First}
-use Rattle.restore_rules.specs.declared.First.TheVariants.{At, Nothing}
 
-abbrev pub first_of : List ℕ → First
-first_of [] = Nothing
-first_of (r ∷ rest) = At r
+abbrev pub first_of : List ℕ → Option ℕ
+first_of [] = None
+first_of (r ∷ rest) = Some r
 
 -- of two settings those that are to be written, in this order
 abbrev pub in_turn : List ℤ → List ℤ → ℕ → ℕ → List ℕ

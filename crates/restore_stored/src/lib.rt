@@ -5,21 +5,21 @@ ghost use Rattle.std.specs.Prelude.{◌≡◌, ◌++◌, length, take};
 ghost use Rattle.restore_stored.specs.Stored.{phase_bytes, size_fault, job_after};
 
 use lists_pathfinder::put_words;
+use refusals::Refusal;
 use restore_jobs::{Job, Phase};
 
-// Puts a job into its bytes. Answers 0, or 8 where they are not so many; they then keep their contents.
-pub fn put_job(j: Job, b: &mut [u8]) -> u8
+// Puts a job into its bytes; where they are not so many, they keep their contents.
+pub fn put_job(j: Job, b: &mut [u8]) -> Result<(), Refusal>
     ensures answer { result ≡ size_fault b.old }
     ensures held { b.new ≡ job_after j b.old }
 {
     if b.len() != restore_bytes::JOB {
-        return refusals::SHAPE;
+        return Err(Refusal::Shape);
     }
-    put_words(&j.present, &mut b[0..200]);
-    put_words(&j.wanted, &mut b[200..400]);
-    let phase = j.phase;
-    put_phase(phase, b);
-    0
+    put_words(&j.present, &mut b[0..200])?;
+    put_words(&j.wanted, &mut b[200..400])?;
+    put_phase(j.phase, b);
+    Ok(())
 }
 
 fn put_phase(phase: Phase, b: &mut [u8])

@@ -15,11 +15,11 @@ use Rattle.checks.specs.Crc.{crc_of}
 use Rattle.numbers.specs.declared.Order.TheVariants.{HighFirst}
 use Rattle.numbers.specs.Bytes.{number_of}
 use Rattle.frames_pathfinder.specs.declared.Frame.{Frame}
-use Rattle.frames_pathfinder.specs.declared.Frame.TheVariants.{Whole, Refused}
+use Rattle.refusals.specs.declared.Refusal.{Refusal}
 use Rattle.frames_pathfinder.specs.Reading.{frame_of}
 use Rattle.frames_pathfinder.proofs.Ladder.{whole, whole_parts}
-use Rattle.search_pathfinder.specs.declared.Found.TheVariants.{Nothing}
-use Rattle.search_pathfinder.specs.Places.{is_whole, size_at, part_at, frame_at, scan, span_of, agrees}
+use Rattle.std.specs.Prelude.{is_ok, None, Result, Ok, Err}
+use Rattle.search_pathfinder.specs.Places.{size_at, part_at, frame_at, scan, span_of, agrees}
 use Rattle.search_pathfinder.proofs.Spans.{too_short, a_span}
 
 not_true : (b : Bool) → (b ≡ true → ⊥) → b ≡ false
@@ -60,7 +60,7 @@ module _ (s : List ℕ) (i : ℕ) where
       let same : crc_of (take (n + 2 - 1) (drop 1 p)) ≡ number_of HighFirst (get_or p (n + 2) 0 ∷ get_or p (n + 3) 0 ∷ []) =
       ap (λ (m : ℕ). crc_of (take m (drop 1 p))) k ∙ ap crc_of (inner (n + 1) (omega arith)) ∙ sum
       ∙ sym (ap₂ (λ (a b : ℕ). number_of HighFirst (a ∷ b ∷ [])) high low) in
-      ap is_whole (sym (whole p (omega arith) first n second size last _ _ refl refl same))
+      ap is_ok (sym (whole p (omega arith) first n second size last _ _ refl refl same))
 
   -- ---- from the frame to the input
 
@@ -76,12 +76,13 @@ module _ (s : List ℕ) (i : ℕ) where
   unfolding frame_at agrees
   frame_has_span h = go (frame_of (part_at s i)) refl h
     where
-      go : (f : Frame) → frame_of (part_at s i) ≡ f → is_whole f ≡ true
+      go : (f : Result Frame Refusal) → frame_of (part_at s i) ≡ f → is_ok f ≡ true
           → (span_of s i ≡ get_or s (i + 1) 0 + 1) × (agrees s i (get_or s (i + 1) 0 + 1) ≡ true) × (get_or s i 0 ≡ 0xFE)
-      go (Refused r) e t = let z : ◌≡◌ {A = ℕ} 0 1 = cc in absurd (omega arith)
-      go (Whole op st m) e t =
+      go (Err r) e t = absurd cc
+      go (Ok f) e t =
           let p = part_at s i in
-          let parts = whole_parts p op st m (sym e) in
+          let m = f.len in
+          let parts = whole_parts p f (sym e) in
           let n = get_or s (i + 1) 0 in
           let len : n ≡ m + 1 = sym (at 1 (omega arith)) ∙ parts.length_byte in
           let fits : i + n + 5 ≤ length s = omega (arith, within) in
@@ -113,8 +114,7 @@ module _ (s : List ℕ) (i : ℕ) where
       let f = frame_has_span t in
       let k : n ≡ get_or s (i + 1) 0 + 1 = e ∙ f.0 in
       let z : true ≡ false = sym f.1 ∙ ap (agrees s i) (sym k) ∙ d in
-      let w : ◌≡◌ {A = ℕ} 0 1 = cc in
-      omega arith)
+      absurd cc)
 
   -- a place that was looked at to the end and did not stop the search has no frame
   pub passed : (n : ℕ) → n ≡ span_of s i → ((n ≡ 0 → ⊥) → agrees s i n ≡ false) → frame_at s i ≡ false
@@ -138,7 +138,7 @@ module _ (s : List ℕ) (i : ℕ) where
       )
 
 -- where fewer bytes are left than a frame has, there is none
-pub scan_short : (s : List ℕ) (k i : ℕ) → length s < i + 6 → scan k i s ≡ Nothing
+pub scan_short : (s : List ℕ) (k i : ℕ) → length s < i + 6 → scan k i s ≡ None
 unfolding scan
 scan_short s zero i h = refl
 scan_short s (suc k) i h = rw (no_span s i 0 (too_short s i h) refl) (scan_short s k (suc i) (omega arith))

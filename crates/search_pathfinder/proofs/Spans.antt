@@ -13,8 +13,8 @@ use Rattle.checks.specs.Crc.{crc_step, crc_from, crc_of}
 use Rattle.checks.proofs.Pairs.{one_next, none_left}
 use Rattle.numbers.specs.declared.Order.TheVariants.{HighFirst}
 use Rattle.numbers.specs.Bytes.{number_of}
-use Rattle.search_pathfinder.specs.declared.Found.TheVariants.{At}
-use Rattle.search_pathfinder.specs.Places.{size_at, frame_at, scan, search_of, span_of, agrees}
+use Rattle.std.specs.Prelude.{Some}
+use Rattle.search_pathfinder.specs.Places.{size_at, frame_at, found_at, scan, search_of, span_of, agrees}
 
 module _ (s : List ℕ) (i : ℕ) where
   pub too_short : length s < i + 6 → 0 ≡ span_of s i
@@ -83,6 +83,6 @@ module _ (s : List ℕ) (i : ℕ) (h : i < length s) where
   unfolding scan
   scan_on f = ap (λ (m : ℕ). scan m i s) one ∙ rw (f, ← add-one i)
 
-  pub scan_here : frame_at s i ≡ true → scan (length s - i) i s ≡ At i (size_at s i)
+  pub scan_here : frame_at s i ≡ true → scan (length s - i) i s ≡ Some (found_at i (size_at s i))
   unfolding scan
   scan_here f = ap (λ (m : ℕ). scan m i s) one ∙ rw f

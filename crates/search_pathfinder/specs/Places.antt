@@ -1,19 +1,12 @@
 -- The smallest place from which a frame lies wholly in the input, with its total length; or none (01, Pathfinder, Frame search).
 -- A frame is what the frame reader takes for one: its text is not said again here. Assumes nothing.
-use Rattle.std.specs.Prelude.{ℕ, zero, suc, ◌+◌, List, [], ◌∷◌, Bool, true, false, length, get_or, take, drop, leb, eqb}
+use Rattle.std.specs.Prelude.{ℕ, zero, suc, ◌+◌, List, [], ◌∷◌, Bool, length, get_or, take, drop, leb, eqb, is_ok, Option, Some, None}
 use Rattle.laws.specs.Choice.{pick}
 use Rattle.checks.specs.Crc.{crc_of}
 use Rattle.numbers.specs.declared.Order.TheVariants.{HighFirst}
 use Rattle.numbers.specs.Bytes.{number_of}
-use Rattle.frames_pathfinder.specs.declared.Frame.{Frame}
-use Rattle.frames_pathfinder.specs.declared.Frame.TheVariants.{Whole, Refused}
 use Rattle.frames_pathfinder.specs.Reading.{frame_of}
 use Rattle.search_pathfinder.specs.declared.Found.{Found}
-use Rattle.search_pathfinder.specs.declared.Found.TheVariants.{At, Nothing}
-
-abbrev pub is_whole : Frame → Bool
-is_whole (Whole op start len) = true
-is_whole (Refused r) = false
 
 -- the length of a frame at place i, if there is one: five bytes more than its length byte says
 abbrev pub size_at : List ℕ → ℕ → ℕ
@@ -25,14 +18,17 @@ part_at s i = take (size_at s i) (drop i s)
 
 -- whether they are a frame
 unfoldable pub frame_at : List ℕ → ℕ → Bool
-frame_at s i = is_whole (frame_of (part_at s i))
+frame_at s i = is_ok (frame_of (part_at s i))
+
+abbrev pub found_at : ℕ → ℕ → Found
+found_at at n = record { place = at; len = n }
 
 -- from place i on, at k places
-unfoldable pub scan : ℕ → ℕ → List ℕ → Found
-scan zero i s = Nothing
-scan (suc k) i s = pick (frame_at s i) (At i (size_at s i)) (scan k (suc i) s)
+unfoldable pub scan : ℕ → ℕ → List ℕ → Option Found
+scan zero i s = None
+scan (suc k) i s = pick (frame_at s i) (Some (found_at i (size_at s i))) (scan k (suc i) s)
 
-unfoldable pub search_of : List ℕ → Found
+unfoldable pub search_of : List ℕ → Option Found
 search_of s = scan (length s) 0 s
 
 -- ---- what the code looks at, shown to be the same in proofs/Frames.antt

@@ -12,7 +12,7 @@ use lib.Signed.{mag, lt_z, non_neg}
 use mir.Syntax.{w16, w32}
 use mir.Val.{SFits, Fits, to_z, of_z}
 use mir.ValLaws.{to_z-of_z}
-use Rattle.settings_pace.specs.declared.Amount.TheVariants.{Is, Positive}
+use Rattle.std.specs.Prelude.{Some, None}
 use Rattle.settings_pace.specs.Reading.{opposite}
 
 mag_neg : (x : ℤ) → mag (neg_ℤ x) ≤ mag x + 1
@@ -30,12 +30,12 @@ not_below (pos zero) h = tt
 not_below (pos (suc n)) h = absurd (omega (arith, ltb-false 0 (suc n) h))
 not_below (negsuc n) h = tt
 
-above : (x : ℤ) → lt_z (pos 0) x ≡ true → Positive ≡ opposite x
+above : (x : ℤ) → lt_z (pos 0) x ≡ true → None ≡ opposite x
 above (pos zero) h = absurd (subst T (sym h) tt)
 above (pos (suc n)) h = refl
 above (negsuc n) h = absurd (subst T (sym h) tt)
 
-amount : (x : ℤ) → lt_z (pos 0) x ≡ false → Is (nat_abs (neg_ℤ x)) ≡ opposite x
+amount : (x : ℤ) → lt_z (pos 0) x ≡ false → Some (nat_abs (neg_ℤ x)) ≡ opposite x
 amount (pos zero) h = refl
 amount (pos (suc n)) h = absurd (omega (arith, ltb-false 0 (suc n) h))
 amount (negsuc n) h = refl
@@ -56,7 +56,7 @@ module _ (x : ℤ) (f : SFits w16 x) where
   negated : to_z w32 (of_z w32 (pos 0 -ℤ to_z w32 (of_z w32 (to_z w16 (of_z w16 x))))) ≡ neg_ℤ x
   negated = to_z-of_z w32 (pos 0 -ℤ to_z w32 (of_z w32 (to_z w16 (of_z w16 x)))) negated_fits ∙ ap (λ (z : ℤ). pos 0 -ℤ z) held ∙ +ℤ_idl (neg_ℤ x)
 
-  pub positive : lt_z (pos 0) (to_z w32 (of_z w32 (to_z w16 (of_z w16 x)))) ≡ true → Positive ≡ opposite x
+  pub positive : lt_z (pos 0) (to_z w32 (of_z w32 (to_z w16 (of_z w16 x)))) ≡ true → None ≡ opposite x
   positive h = above x (rw held at h)
 
   module _ (h : lt_z (pos 0) (to_z w32 (of_z w32 (to_z w16 (of_z w16 x)))) ≡ false) where
@@ -64,5 +64,5 @@ module _ (x : ℤ) (f : SFits w16 x) where
         × Fits w16 (nat_abs (to_z w32 (of_z w32 (pos 0 -ℤ to_z w32 (of_z w32 (to_z w16 (of_z w16 x)))))))
     amount_fits = rw negated (not_below x (rw held at h), record { fits = omega (arith, abs_neg x, f.sfits) })
 
-    pub amount_is : Is (nat_abs (to_z w32 (of_z w32 (pos 0 -ℤ to_z w32 (of_z w32 (to_z w16 (of_z w16 x))))))) ≡ opposite x
-    amount_is = ap (λ (z : ℤ). Is (nat_abs z)) negated ∙ amount x (rw held at h)
+    pub amount_is : Some (nat_abs (to_z w32 (of_z w32 (pos 0 -ℤ to_z w32 (of_z w32 (to_z w16 (of_z w16 x))))))) ≡ opposite x
+    amount_is = ap (λ (z : ℤ). Some (nat_abs z)) negated ∙ amount x (rw held at h)

@@ -10,17 +10,17 @@ use borrow.Author.Tests.{eq-eqb, eqb-true, leb-true}
 use lib.Dec.{leb, eqb}
 use lib.ListN.{length, get_or, length-append}
 use lib.Seq.{get_or_at}
+use Rattle.std.specs.Prelude.{Ok}
 use Rattle.laws.specs.Firsts.{firsts}
 use Rattle.laws.proofs.Firsts.{firsts_length, firsts_cons, firsts_same}
 use Rattle.laws.proofs.Ladders.{into, both}
 use Rattle.numbers.proofs.Orders.{Bytes}
-use Rattle.refusals.specs.declared.Refusal.{Refusal}
+use Rattle.refusals.proofs.Writing.{not_refused}
 use Rattle.characters_pace.specs.Characters.{all_of, halves, word_at, words_at}
 use Rattle.characters_pace.proofs.Halves.{halves_length}
 use Rattle.layouts_pace.specs.declared.Setting.{Setting}
 use Rattle.layouts_pace.specs.declared.Layout.{Layout}
 use Rattle.layouts_pace.specs.declared.Values.{Values}
-use Rattle.settings_pace.specs.declared.Found.TheVariants.{Set, Refused}
 use Rattle.layouts_pace.specs.Settings.{layout_of, setting_of, amounts_of, delay_of, values_of}
 use Rattle.allowed_pace.specs.Allowed.{in_steps, allowed, allowed_of}
 use Rattle.writes_pace.specs.Info.{pairs_of, payload, info_of}
@@ -159,7 +159,7 @@ info_short v =
     omega (arith, halves_length (λ x. x / 256 % 256) (λ x. x % 256) (amounts_of v), amounts_count v, few (setting_of v))
 
 -- values that may be written are read back
-pub values_read_back : (v : Values) → allowed_of v ≡ true → Set v ≡ request_of (setting_of v) (info_of v)
+pub values_read_back : (v : Values) → allowed_of v ≡ true → Ok v ≡ request_of (setting_of v) (info_of v)
 unfolding request_of
 values_read_back v e =
     let layout = layout_of (setting_of v) in
@@ -174,17 +174,14 @@ pub record Again (s : Setting) (d : List ℕ) (v : Values) : Type 0 where
   pub info : info_of v ≡ d
   pub may : allowed_of v ≡ true
 
-not_refused : (v : Values) (w : Refusal) → Set v ≡ Refused w → ⊥
-not_refused v w h = let z : ◌≡◌ {A = ℕ} 0 1 = cc in omega arith
-
-pub values_write_back : (s : Setting) (d : List ℕ) (v : Values) → Bytes d → Set v ≡ request_of s d → Again s d v
+pub values_write_back : (s : Setting) (d : List ℕ) (v : Values) → Bytes d → Ok v ≡ request_of s d → Again s d v
 unfolding request_of
 values_write_back s d v b e =
     let layout = layout_of s in
     let w = words_in layout d in
     let k = delay_in layout d in
-    let f = into (shaped layout d) _ _ _ (not_refused v _) e in
-    let g = into (allowed_of (values_of s w k)) _ _ _ (not_refused v _) f.1 in
+    let f = into (shaped layout d) _ _ _ (not_refused {A = ⊥} v _) e in
+    let g = into (allowed_of (values_of s w k)) _ _ _ (not_refused {A = ⊥} v _) f.1 in
     let is : v ≡ values_of s w k = cc g.1 in
     let n : length w ≡ layout.amounts = firsts_length (λ i. word_at d (1 + 2 * i)) layout.amounts in
     let set : setting_of v ≡ s = ap setting_of is ∙ setting_again s w k in

@@ -4,42 +4,34 @@
 ghost use Rattle.std.specs.Prelude.{◌≡◌};
 ghost use Rattle.signs.specs.Signed.{signed_of, bits_of};
 
-// The signed number whose 8 bits are n.
-pub fn signed8(n: u8) -> i8
-    ensures { result ≡ signed_of 7 n }
+// The signed number whose 8 bits these are.
+#[tactic(auto, using(crate::proofs::Signs::signed_bits))]
+pub fn signed8(byte: u8) -> i8
+    ensures { result ≡ signed_of 7 byte }
 {
-    if n < 128 { n as i8 } else { !((255 - n) as i8) }
+    byte.cast_signed()
 }
 
-// The signed number whose 16 bits are n.
-pub fn signed16(n: u16) -> i16
-    ensures { result ≡ signed_of 15 n }
+// The signed number whose 16 bits these are.
+#[tactic(auto, using(crate::proofs::Signs::signed_bits))]
+pub fn signed16(half: u16) -> i16
+    ensures { result ≡ signed_of 15 half }
 {
-    if n < 32768 {
-        n as i16
-    } else {
-        !((65535 - n) as i16)
-    }
+    half.cast_signed()
 }
 
-// The signed number whose 32 bits are n.
-pub fn signed32(n: u32) -> i32
-    ensures { result ≡ signed_of 31 n }
+// The signed number whose 32 bits these are.
+#[tactic(auto, using(crate::proofs::Signs::signed_bits))]
+pub fn signed32(word: u32) -> i32
+    ensures { result ≡ signed_of 31 word }
 {
-    if n < 2147483648 {
-        n as i32
-    } else {
-        !((4294967295 - n) as i32)
-    }
+    word.cast_signed()
 }
 
 // The 32 bits of v.
+#[tactic(auto, using(crate::proofs::Signs::bits_signed))]
 pub fn bits32(v: i32) -> u32
     ensures { result ≡ bits_of 32 v }
 {
-    if 0 <= v {
-        v as u32
-    } else {
-        4294967295 - (!v) as u32
-    }
+    v.cast_unsigned()
 }

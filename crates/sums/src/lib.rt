@@ -4,8 +4,6 @@
 ghost use Rattle.std.specs.Prelude.{◌≡◌, ◌%◌};
 ghost use Rattle.sums.specs.Sums.{total, closing, closes};
 
-use std::num::{wrapping_add_u8, wrapping_add_u32};
-
 // The byte that brings the sum of the bytes to 0 modulo 256.
 pub fn close256(s: &[u8]) -> u8
     ensures { result ≡ closing 256 (total s.now) }
@@ -33,10 +31,8 @@ pub fn sum256(s: &[u8]) -> u8
     ensures { result ≡ total s.now % 256 }
 {
     let mut t: u8 = 0;
-    let mut i = 0;
-    while i < s.len() {
-        t = wrapping_add_u8(t, s[i]);
-        i += 1;
+    for byte in s {
+        t = t.wrapping_add(*byte);
     }
     t
 }
@@ -46,10 +42,8 @@ fn sum65536(s: &[u8]) -> u32
     ensures { result ≡ total s.now % 65536 }
 {
     let mut t: u32 = 0;
-    let mut i = 0;
-    while i < s.len() {
-        t = wrapping_add_u32(t, s[i] as u32);
-        i += 1;
+    for byte in s {
+        t = t.wrapping_add(u32::from(*byte));
     }
     t % 65536
 }

@@ -10,14 +10,13 @@ use borrow.Author.Tests.{lt-ltb, ltb-true, leb-true}
 use lib.Dec.{ltb, leb, eqb}
 use lib.ListN.{length, get_or, take}
 use lib.Seq.{take_all}
+use Rattle.std.specs.Prelude.{Option, Some, None}
 use Rattle.laws.specs.Choice.{pick}
 use Rattle.laws.specs.Every.{every}
 use Rattle.laws.proofs.Every.{each, holds}
 use Rattle.laws.specs.Firsts.{firsts}
 use Rattle.laws.proofs.Fronts.{front}
 use Rattle.laws.proofs.Ladders.{both}
-use Rattle.bcd.specs.declared.Bcd.{Bcd}
-use Rattle.bcd.specs.declared.Bcd.TheVariants.{Is, Other}
 use Rattle.bcd.specs.Decimal.{bcd_of, bcd_byte}
 use Rattle.calendar.specs.Dates.{leap, days, days_in, real_date, real_time}
 use Rattle.bcd.proofs.Tens.{bcd_reads_back, bcd_writes_back}
@@ -30,15 +29,15 @@ number_back : (n : ℕ) → n < 100 → plain_of (bcd_of (plain_of (bcd_byte n))
 unfolding bcd_byte
 number_back n h =
     let b = bcd_byte n in
-    let e : bcd_byte n ≡ Is (plain_of (bcd_byte n)) = rw (lt-ltb n 100 h) in
+    let e : bcd_byte n ≡ Some (plain_of (bcd_byte n)) = rw (lt-ltb n 100 h) in
     ap plain_of (bcd_reads_back n (plain_of (bcd_byte n)) h e)
 
 byte_back : (b : ℕ) → b < 256 → plain_of (bcd_of b) < 100 → plain_of (bcd_byte (plain_of (bcd_of b))) ≡ b
 byte_back b h small = go (bcd_of b) refl small
   where
-    go : (d : Bcd) → bcd_of b ≡ d → plain_of d < 100 → plain_of (bcd_byte (plain_of d)) ≡ b
-    go (Is n) e l = ap plain_of (bcd_writes_back b n h e)
-    go Other e l = absurd (omega arith)
+    go : (d : Option ℕ) → bcd_of b ≡ d → plain_of d < 100 → plain_of (bcd_byte (plain_of d)) ≡ b
+    go (Some n) e l = ap plain_of (bcd_writes_back b n h e)
+    go None e l = absurd (omega arith)
 
 -- ---- real dates and times have small numbers
 

@@ -1,16 +1,14 @@
 -- The time that function 30 sets (002, 6.9.3 and 6.11; 01, Tongzhu): six BCD bytes, and the plain numbers that they stand for.
 -- Assumes nothing.
-use Rattle.std.specs.Prelude.{ℕ, Bool, ◌&&◌, List, [], ◌∷◌, get_or}
-use Rattle.bcd.specs.declared.Bcd.{Bcd}
-use Rattle.bcd.specs.declared.Bcd.TheVariants.{Is, Other}
+use Rattle.std.specs.Prelude.{ℕ, Bool, ◌&&◌, List, [], ◌∷◌, get_or, Option, Some, None}
 use Rattle.bcd.specs.Decimal.{bcd_of, bcd_byte}
 use Rattle.calendar.specs.Dates.{real_date, real_time}
 use Rattle.times_tongzhu.specs.declared.Time.{Time}
 
 -- the number of a BCD byte, or the byte of a number of two digits; 255, which no real date or time has, where there is none
-abbrev pub plain_of : Bcd → ℕ
-plain_of (Is n) = n
-plain_of Other = 255
+abbrev pub plain_of : Option ℕ → ℕ
+plain_of (Some n) = n
+plain_of None = 255
 
 -- a year 0 to 99 from 2000, a real date in it, a time to 23:59:59
 abbrev pub real : Time → Bool

@@ -6,11 +6,11 @@ ghost use Rattle.std.specs.Prelude.{◌≡◌};
 ghost use Rattle.bcd.specs.Decimal.{bcd_of, bcd_byte};
 ghost use Rattle.times_tongzhu.specs.Times.{plain_of, real, time_in, time_bytes};
 
-use bcd::{Bcd, read_bcd, write_bcd};
+use bcd::{read_bcd, write_bcd};
 use calendar::{is_date, is_time};
 
 // A date and a time of day, as plain numbers.
-#[derive(Clone, Copy)]
+#[derive(Clone, Copy, Debug, PartialEq, Eq)]
 pub struct Time {
     // 0 to 99, from 2000 on.
     pub year: u8,
@@ -25,10 +25,7 @@ pub struct Time {
 pub fn is_real(t: Time) -> bool
     ensures { result ≡ real t }
 {
-    if is_date(t.year, t.month, t.day) {
-        return is_time(t.hour, t.minute, t.second);
-    }
-    false
+    is_date(t.year, t.month, t.day) && is_time(t.hour, t.minute, t.second)
 }
 
 // The six bytes of a time; 255, which is no BCD, for a number of more than two digits.
@@ -59,24 +56,18 @@ pub fn time_in(p: [u8; 6]) -> Time
     }
 }
 
+// What stands for a number or a byte that is no BCD; it is in no real date or time. So a time and its bytes go there and back as plain numbers, and
+// what is real is tested once.
+const NO_BCD: u8 = 255;
+
 fn to_bcd(n: u8) -> u8
     ensures { result ≡ plain_of (bcd_byte n) }
 {
-    plain(write_bcd(n))
+    write_bcd(n).unwrap_or(NO_BCD)
 }
 
 fn from_bcd(b: u8) -> u8
     ensures { result ≡ plain_of (bcd_of b) }
 {
-    plain(read_bcd(b))
-}
-
-// The number of what was read or written as BCD; 255, which is in no real date or time, where there is none.
-fn plain(d: Bcd) -> u8
-    ensures { result ≡ plain_of d }
-{
-    match d {
-        Bcd::Is(n) => n,
-        Bcd::Other => 255,
-    }
+    read_bcd(b).unwrap_or(NO_BCD)
 }

@@ -3,14 +3,15 @@
 use mathlib.Core.Path.{◌≡◌, refl, sym}
 use Prim.Native.Nat.{ℕ, ◌≤◌}
 use native.Mathlib.Omega.{arith}
+use Rattle.std.specs.Prelude.{Ok}
 use Rattle.types_pathfinder.specs.declared.RowType.TheVariants.{U16, Count}
 use Rattle.types_pathfinder.specs.Types.{infos, type_at}
 use Rattle.laws.proofs.Tables.{along}
 
-pub counts : (row : ℕ) → 32 ≤ row → row ≤ 45 → type_at 0x03 row ≡ Count
+pub counts : (row : ℕ) → 32 ≤ row → row ≤ 45 → type_at 0x03 row ≡ Ok Count
 unfolding type_at infos
-counts row a b = sym (along (type_at 0x03) Count 32 14 row refl a (omega arith))
+counts row a b = sym (along (type_at 0x03) (Ok Count) 32 14 row refl a (omega arith))
 
-pub times : (row : ℕ) → 47 ≤ row → row ≤ 48 → type_at 0x03 row ≡ U16
+pub times : (row : ℕ) → 47 ≤ row → row ≤ 48 → type_at 0x03 row ≡ Ok U16
 unfolding type_at infos
-times row a b = sym (along (type_at 0x03) U16 47 2 row refl a (omega arith))
+times row a b = sym (along (type_at 0x03) (Ok U16) 47 2 row refl a (omega arith))

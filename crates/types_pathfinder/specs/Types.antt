@@ -1,9 +1,12 @@
 -- The type of each row of replies 01 to 04 (000, data definitions for 0x01, 0x02 and 0x03, where "18", "132", "l16" and "l32" are misprints of I8,
 -- I32, I16 and I32; reply 04 has no table there, and its words are taken as they come). Assumes nothing.
-use Rattle.std.specs.Prelude.{ℕ, List, [], ◌∷◌, ltb, eqb, length, get_or}
+use Rattle.std.specs.Prelude.{ℕ, List, [], ◌∷◌, ltb, eqb, slice_get, Option, Some, None, Result, Err}
+use Rattle.std.specs.Option.{ok_or}
 use Rattle.laws.specs.Choice.{pick}
+use Rattle.refusals.specs.declared.Refusal.{Refusal}
+use Rattle.refusals.specs.declared.Refusal.TheVariants as refusal
 use Rattle.types_pathfinder.specs.declared.RowType.{RowType}
-use Rattle.types_pathfinder.specs.declared.RowType.TheVariants.{U8, I8, U16, I16, U32, I32, Bool, TenMillivolts, Bits, Count, NoRow, NoReply}
+use Rattle.types_pathfinder.specs.declared.RowType.TheVariants.{U8, I8, U16, I16, U32, I32, Bool, TenMillivolts, Bits, Count}
 
 -- reply 02, setting by setting
 unfoldable pub settings : List RowType
@@ -68,15 +71,17 @@ infos =
     Count ∷ Count ∷ Count ∷ Count ∷ Count ∷ Count ∷ Count ∷ Count ∷ Count ∷ Count ∷ Count ∷ Count ∷ Count ∷ Count ∷ U8 ∷ U16 ∷ U16 ∷
     U8 ∷ U32 ∷ U32 ∷ TenMillivolts ∷ []
 
-abbrev pub listed_at : List RowType → ℕ → RowType
-listed_at rows row = pick (ltb row (length rows)) (get_or rows row U8) NoRow
+-- the type of a row of such a list, if there is that row
+abbrev pub listed_at : List RowType → ℕ → Option RowType
+listed_at rows row = slice_get rows row
 
 -- replies of I32 words, so many: 01 (000) and 04 (docs/DECISIONS.md)
-abbrev pub words_at : ℕ → ℕ → RowType
-words_at count row = pick (ltb row count) I32 NoRow
+abbrev pub words_at : ℕ → ℕ → Option RowType
+words_at count row = pick (ltb row count) (Some I32) None
 
-unfoldable pub type_at : ℕ → ℕ → RowType
+-- 7 where there is no such reply, 8 where it has no such row
+unfoldable pub type_at : ℕ → ℕ → Result RowType Refusal
 type_at reply row =
-    pick (eqb reply 0x01) (words_at 3 row)
-    (pick (eqb reply 0x02) (listed_at settings row)
-    (pick (eqb reply 0x03) (listed_at infos row) (pick (eqb reply 0x04) (words_at 16 row) NoReply)))
+    pick (eqb reply 0x01) (ok_or (words_at 3 row) refusal.Shape)
+    (pick (eqb reply 0x02) (ok_or (listed_at settings row) refusal.Shape)
+    (pick (eqb reply 0x03) (ok_or (listed_at infos row) refusal.Shape) (pick (eqb reply 0x04) (ok_or (words_at 16 row) refusal.Shape) (Err refusal.Request))))

@@ -14,9 +14,10 @@ fn main(rt: HostRuntime) -> io::Result<()> {
     // no more is read, and an input without end is answered too.
     let mut bytes = [0u8; 256];
     let n = read_full(&mut rt.stdin(), &mut bytes)?;
-    let r = read_reply(0x11, &bytes[..n]);
-    let answer = r.answer;
-    show(&rt, answer)
+    match read_reply(0x11, &bytes[..n]) {
+        Ok(reply) => show(&rt, reply.answer),
+        Err(why) => println!(rt; "{why}"),
+    }
 }
 
 // Reads until the room is full or the input ends; how many bytes came.
@@ -34,67 +35,30 @@ fn read_full(from: &mut impl Read, room: &mut [u8]) -> io::Result<usize>
     Ok(n)
 }
 
-// Prints an answer. Function 11 has no answer but these three.
+// Prints an answer. Function 11 has no answer but these two.
 fn show(to: &impl Print, answer: Answer) -> io::Result<()> {
     match answer {
         Answer::Monitor2(m) => show_monitor2(to, m),
-        Answer::DeviceError => put(to, b"device error\n"),
-        Answer::Refused(r) => field(to, b"refused ", r.number as u64),
+        Answer::DeviceError => println!(to; "device error"),
         _ => Ok(()),
     }
 }
 
 fn show_monitor2(to: &impl Print, m: Monitor2) -> io::Result<()> {
-    put(to, b"monitor2\n")?;
+    println!(to; "monitor2")?;
     show_status(to, m.status)?;
-    signed_field(to, b"current_100ma ", m.current)?;
-    field(to, b"highest_mv ", m.highest as u64)?;
-    field(to, b"lowest_mv ", m.lowest as u64)?;
-    field(to, b"total_10mv ", m.total as u64)?;
-    signed_field(to, b"hottest_c ", wide(m.hottest))?;
-    signed_field(to, b"coldest_c ", wide(m.coldest))?;
-    field(to, b"cycles ", m.cycles as u64)?;
-    field(to, b"remaining_100mah ", m.remaining as u64)?;
-    field(to, b"capacity_100mah ", m.capacity as u64)?;
-    field(to, b"switch ", m.switch as u64)
+    println!(to; "current_100ma {}", m.current)?;
+    println!(to; "highest_mv {}", m.highest)?;
+    println!(to; "lowest_mv {}", m.lowest)?;
+    println!(to; "total_10mv {}", m.total)?;
+    println!(to; "hottest_c {}", m.hottest)?;
+    println!(to; "coldest_c {}", m.coldest)?;
+    println!(to; "cycles {}", m.cycles)?;
+    println!(to; "remaining_100mah {}", m.remaining)?;
+    println!(to; "capacity_100mah {}", m.capacity)?;
+    println!(to; "switch {}", m.switch)
 }
 
 fn show_status(to: &impl Print, s: Status) -> io::Result<()> {
-    put(to, b"status ")?;
-    to.print(s.first)?;
-    put(to, b" ")?;
-    to.print(s.second)?;
-    put(to, b" ")?;
-    to.print(s.third)?;
-    field(to, b" ", s.fourth as u64)
-}
-
-// A name, a number and the line's end.
-fn field(to: &impl Print, name: &[u8], n: u64) -> io::Result<()> {
-    put(to, name)?;
-    to.print(n)?;
-    put(to, b"\n")
-}
-
-// The same of a number that may be negative: its 32 bits say whether it is.
-fn signed_field(to: &impl Print, name: &[u8], v: i16) -> io::Result<()> {
-    put(to, name)?;
-    let n = signs::bits32(wider(v));
-    if n < 2147483648 {
-        field(to, b"", n as u64)
-    } else {
-        field(to, b"-", 4294967296 - n as u64)
-    }
-}
-
-fn wider(v: i16) -> i32 {
-    v as i32
-}
-
-fn wide(v: i8) -> i16 {
-    v as i16
-}
-
-fn put(to: &impl Print, s: &[u8]) -> io::Result<()> {
-    to.write_all(s)
+    println!(to; "status {} {} {} {}", s.first, s.second, s.third, s.fourth)
 }

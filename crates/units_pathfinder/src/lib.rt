@@ -5,11 +5,11 @@ ghost use Rattle.std.specs.Prelude.{◌≡◌};
 ghost use Rattle.units_pathfinder.specs.Units.{millivolts_of};
 
 // A reading in units of ten millivolts.
-#[derive(Drop)]
+#[derive(Clone, Copy, Debug, PartialEq, Eq)]
 pub struct TenMillivolts(pub i16);
 
 // A reading in millivolts.
-#[derive(Drop)]
+#[derive(Clone, Copy, Debug, PartialEq, Eq)]
 pub struct Millivolts(pub i32);
 
 // The one conversion between the two units.

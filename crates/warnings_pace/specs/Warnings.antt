@@ -1,13 +1,11 @@
 -- The reply to 44, over its bytes d (01, PACE; 004, Get Status): 00, address, c, c warnings, t, t warnings, twelve bytes.
 -- Assumes nothing.
-use Rattle.std.specs.Prelude.{false, List, ◌++◌, ℕ, ◌+◌, get_or, drop, replicate}
+use Rattle.std.specs.Prelude.{false, List, ◌++◌, Result, Ok, Err, ℕ, ◌+◌, get_or, drop, replicate}
 use Rattle.refusals.specs.declared.Refusal.{Refusal}
 use Rattle.characters_pace.specs.Characters.{bytes_at}
 use Rattle.counts_pace.specs.declared.Counts.{Counts}
-use Rattle.counts_pace.specs.declared.Counts.TheVariants.{Are, Refused}
 use Rattle.counts_pace.specs.Counts.{counts_of}
 use Rattle.warnings_pace.specs.declared.Warnings.{Warnings}
-use Rattle.warnings_pace.specs.declared.Found.TheVariants as found
 use Rattle.warnings_pace.specs.declared.Reading.{Reading}
 
 -- the twelve bytes, in the order of 004
@@ -30,22 +28,18 @@ status_of c t d =
       warning2 = get_or d (c + t + 4 + 11) 0;
     }
 
--- a refusal, with nothing beside it
-abbrev pub nothing : Refusal → Reading
-nothing why = record { found = found.Refused why; cells = replicate 16 0; temperatures = replicate 8 0 }
-
 -- c cells and t temperatures
 unfoldable pub with_counts : ℕ → ℕ → List ℕ → Reading
 with_counts c t d =
     record {
-      found = found.Warnings (status_of c t d);
+      status = status_of c t d;
       cells = bytes_at 3 c d ++ drop c (replicate 16 0);
       temperatures = bytes_at (c + 4) t d ++ drop t (replicate 8 0);
     }
 
-abbrev pub by_counts : Counts → List ℕ → Reading
-by_counts (Are c t) d = with_counts c t d
-by_counts (Refused why) d = nothing why
+abbrev pub by_counts : Result Counts Refusal → List ℕ → Result Reading Refusal
+by_counts (Ok n) d = Ok (with_counts n.cells n.temperatures d)
+by_counts (Err why) d = Err why
 
-unfoldable pub reading_of : ℕ → List ℕ → Reading
+unfoldable pub reading_of : ℕ → List ℕ → Result Reading Refusal
 reading_of address d = by_counts (counts_of false 12 address d) d

@@ -4,14 +4,14 @@
 
 ghost use Rattle.std.specs.Prelude.{◌≡◌, ◌≤◌};
 ghost use Rattle.characters_pace.specs.Characters.{bytes_in, checked_info};
-ghost use Rattle.warnings_pace.specs.Warnings.{status_of, nothing, with_counts, reading_of};
+ghost use Rattle.warnings_pace.specs.Warnings.{status_of, with_counts, reading_of};
 
-use counts_pace::{Counts, counts_of};
+use counts_pace::counts_of;
 use lists_pace::bytes_of;
 use refusals::Refusal;
 
 // The counts of cells and temperatures, and the twelve bytes behind their warnings.
-#[derive(Drop)]
+#[derive(Clone, Copy, Debug, PartialEq, Eq)]
 pub struct Warnings {
     pub cells: u8,
     pub temperatures: u8,
@@ -29,32 +29,20 @@ pub struct Warnings {
     pub warning2: u8,
 }
 
-#[derive(Drop)]
-pub enum Found {
-    Warnings(Warnings),
-    Refused(Refusal),
-}
-
-// What was found, with a warning for each cell and each temperature; places past a count are 0.
-#[derive(Drop)]
+// The twelve bytes, with a warning for each cell and each temperature; places past a count are 0.
+#[derive(Clone, Copy, Debug, PartialEq, Eq)]
 pub struct Reading {
-    pub found: Found,
+    pub status: Warnings,
     pub cells: [u8; 16],
     pub temperatures: [u8; 8],
 }
 
 // The warnings in INFO, or why there are none.
-pub fn read_warnings(address: u8, info: &[u8]) -> Reading
-    ensures { result ≡ checked_info nothing (reading_of address) info.now }
+pub fn read_warnings(address: u8, info: &[u8]) -> Result<Reading, Refusal>
+    ensures { result ≡ checked_info (reading_of address) info.now }
 {
-    let counts = counts_of(false, 12, address, info);
-    match counts {
-        Counts::Are {
-            cells,
-            temperatures,
-        } => with_counts(cells, temperatures, info),
-        Counts::Refused(why) => none(why),
-    }
+    let counts = counts_of(false, 12, address, info)?;
+    Ok(with_counts(counts.cells, counts.temperatures, info))
 }
 
 // The warnings of so many cells and temperatures.
@@ -69,19 +57,9 @@ fn with_counts(cells: u8, temperatures: u8, info: &[u8]) -> Reading
     let mut of_temperatures = [0u8; 8];
     bytes_of(info, cells + 4, &mut of_temperatures[0..t]);
     Reading {
-        found: Found::Warnings(status_of(cells, temperatures, info)),
+        status: status_of(cells, temperatures, info),
         cells: of_cells,
         temperatures: of_temperatures,
-    }
-}
-
-fn none(why: Refusal) -> Reading
-    ensures { result ≡ nothing why }
-{
-    Reading {
-        found: Found::Refused(why),
-        cells: [0u8; 16],
-        temperatures: [0u8; 8],
     }
 }
 

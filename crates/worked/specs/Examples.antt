@@ -1,10 +1,9 @@
 -- The worked examples of 01 (Examples, P1 to P12): what the definitions that the contracts cite give, each tested against what 01 says.
 -- Assumes nothing.
-use Rattle.std.specs.Prelude.{Bool, true, false, not, ◌&&◌, List, [], ◌∷◌, ◌++◌, ℕ, eqb, replicate, ℤ, pos, negsuc}
+use Rattle.std.specs.Prelude.{Bool, true, false, not, ◌&&◌, List, [], ◌∷◌, ◌++◌, ℕ, eqb, replicate, ℤ, pos, negsuc, Option, Some, None, Result, Ok, Err, is_ok}
+use Rattle.refusals.specs.declared.Refusal.{Refusal}
 use Rattle.checks.specs.Crc.{crc_of}
 use Rattle.sums.specs.Sums.{total, closing}
-use Rattle.lengths_pace.specs.declared.Length.{Length}
-use Rattle.lengths_pace.specs.declared.Length.TheVariants as lengths
 use Rattle.lengths_pace.specs.Lengths.{word_of}
 use Rattle.calendar.specs.Dates.{real_date}
 use Rattle.times_tongzhu.specs.declared.Time.{Time}
@@ -15,12 +14,9 @@ use Rattle.characters_pace.specs.Characters.{hexed}
 use Rattle.layouts_pace.specs.declared.Setting.TheVariants.{Discharge}
 use Rattle.layouts_pace.specs.Settings.{amounts_of}
 use Rattle.writes_pace.specs.Info.{info_of}
-use Rattle.settings_pace.specs.declared.Found.{Found}
-use Rattle.settings_pace.specs.declared.Found.TheVariants.{Set, Refused}
+use Rattle.layouts_pace.specs.declared.Values.{Values}
 use Rattle.settings_pace.specs.Reading.{reply_of}
 use Rattle.analog_pace.specs.Analog.{tenths_of}
-use Rattle.parts_old58.specs.declared.Current.{Current}
-use Rattle.parts_old58.specs.declared.Current.TheVariants.{Milliamps, Missing}
 use Rattle.parts_old58.specs.Parts.{current_at}
 use Rattle.words_pathfinder.specs.Words as words
 use Rattle.restore_order.specs.Slots.{eq_z, slots, writes}
@@ -35,23 +31,23 @@ alike (x ∷ s) [] = false
 alike (x ∷ s) (y ∷ t) = eqb x y && alike s t
 
 -- a LENGTH word, and this one
-abbrev pub is_word : Length → ℕ → Bool
-is_word (lengths.Is w) n = eqb w n
-is_word lengths.Wrong n = false
+abbrev pub is_word : Option ℕ → ℕ → Bool
+is_word (Some w) n = eqb w n
+is_word None n = false
 
 -- a request without fault, and its frame is these bytes
 abbrev pub is_frame : Request → List ℕ → Bool
-is_frame q s = eqb (fault_of q) 0 && alike (frame_for q) s
+is_frame q s = is_ok (fault_of q) && alike (frame_for q) s
 
 -- values, with these amounts, and with these bytes as they are written back
-abbrev pub is_setting : Found → List ℕ → List ℕ → Bool
-is_setting (Set v) amounts info = alike (amounts_of v) amounts && alike (info_of v) info
-is_setting (Refused r) amounts info = false
+abbrev pub is_setting : Result Values Refusal → List ℕ → List ℕ → Bool
+is_setting (Ok v) amounts info = alike (amounts_of v) amounts && alike (info_of v) info
+is_setting (Err why) amounts info = false
 
 -- a current, and this one
-abbrev pub is_current : Current → ℤ → Bool
-is_current (Milliamps z) v = eq_z z v
-is_current Missing v = false
+abbrev pub is_current : Option ℤ → ℤ → Bool
+is_current (Some z) v = eq_z z v
+is_current None v = false
 
 -- ---- what the examples speak of
 

@@ -10,7 +10,7 @@ use numbers::Order;
 use numbers_written::bytes16;
 
 // The values of a setting with their places counted; places past the layout's amounts are 0.
-#[derive(Drop)]
+#[derive(Clone, Copy, Debug, PartialEq, Eq)]
 struct Parts {
     setting: Setting,
     amounts: [u16; 3],
@@ -43,8 +43,8 @@ fn parts_of(v: Values) -> Parts
     }
 }
 
-// The command that writes a setting, and the bytes of its INFO, as many as `len` says.
-#[derive(Drop)]
+// The command that writes a setting, and the bytes of its INFO, as many as `len` says. A buffer with a length beside it, since there is no heap here.
+#[derive(Clone, Copy, Debug, PartialEq, Eq)]
 pub struct Info {
     pub command: u8,
     pub bytes: [u8; 8],
@@ -76,11 +76,9 @@ fn put_words(words: &[u16], out: &mut [u8])
     requires { length out.old ≡ 2 * length words.now }
     ensures { out.new ≡ pairs_of words.now }
 {
-    let mut i = 0;
-    while i < words.len() {
-        let pair = bytes16(Order::HighFirst, words[i]);
-        out[2 * i] = pair[0];
-        out[2 * i + 1] = pair[1];
-        i += 1;
+    for (i, &word) in words.iter().enumerate() {
+        let [high, low] = bytes16(Order::HighFirst, word);
+        out[2 * i] = high;
+        out[2 * i + 1] = low;
     }
 }

@@ -13,31 +13,28 @@ all : length settings ≡ 2
 unfolding settings
 all = refl
 
-pub loop-i-init : goal.loop-i-init
-loop-i-init c = refl
+pub loop-setting-init : goal.loop-setting-init
+loop-setting-init c = refl
 
 pub returns-then-code-layout : goal.returns-then-code-layout
 unfolding settings
 returns-then-code-layout c =
-    let l = c.loop-i in
-    reads_here settings _ l.i l.invariant _ (omega (arith, all)) (c.if-code-layout.true ∙ ap (λ (q : Layout). q.reads) c.layout_of-layout.ensures)
+    let l = c.loop-setting in
+    reads_here settings _ l.setting-index l.invariant _ (omega (arith, all)) (c.if-code-layout.true ∙ ap (λ (q : Layout). q.reads) c.layout_of-layout.ensures)
 
 pub returns-then-code-layout-2 : goal.returns-then-code-layout-2
 unfolding settings
 returns-then-code-layout-2 c =
-    let l = c.loop-i in
-    writes_here settings _ l.i l.invariant _ (omega (arith, all)) (λ e. c.if-code-layout.false (e ∙ sym (ap (λ (q : Layout). q.reads) c.layout_of-layout.ensures)))
+    let l = c.loop-setting in
+    writes_here settings _ l.setting-index l.invariant _ (omega (arith, all)) (λ e. c.if-code-layout.false (e ∙ sym (ap (λ (q : Layout). q.reads) c.layout_of-layout.ensures)))
     (c.if-code-layout-2.true ∙ ap (λ (q : Layout). q.writes) c.layout_of-layout.ensures)
 
-pub loop-i-smaller : goal.loop-i-smaller
-loop-i-smaller c = omega (arith, all)
-
-pub loop-i-preserved : goal.loop-i-preserved
+pub loop-setting-preserved : goal.loop-setting-preserved
 unfolding settings
-loop-i-preserved c =
-    let l = c.loop-i in
-    neither_here settings _ l.i l.invariant _ (omega (arith, all)) (λ e. c.if-code-layout.false (e ∙ sym (ap (λ (q : Layout). q.reads) c.layout_of-layout.ensures)))
+loop-setting-preserved c =
+    let l = c.loop-setting in
+    neither_here settings _ l.setting-index l.invariant _ (omega (arith, all)) (λ e. c.if-code-layout.false (e ∙ sym (ap (λ (q : Layout). q.reads) c.layout_of-layout.ensures)))
     (λ e. c.if-code-layout-2.false (e ∙ sym (ap (λ (q : Layout). q.writes) c.layout_of-layout.ensures)))
 
 pub returns : goal.returns
-returns c = let l = c.loop-i in none_left settings _ l.i l.invariant (omega (arith, all))
+returns c = let l = c.loop-setting in none_left settings _ l.setting-index l.invariant (omega (arith, all))

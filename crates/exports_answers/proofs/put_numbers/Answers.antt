@@ -1,19 +1,21 @@
--- `exports_answers::put_numbers` meets its contract: by what `put_i32` answers, 11 where the row is too short, else the numbers placed at its front.
+-- `exports_answers::put_numbers` meets its contract: by what `put` answers, 11 where the row is too short, else the numbers placed at its front.
 -- Assumes nothing.
-use mathlib.Core.Path.{◌∙◌}
+use mathlib.Core.Path.{ap, ◌∙◌}
+use Rattle.exports_parts.proofs.Placing.{as_they_are}
+use Rattle.exports_parts.specs.Parts.{placed}
 use Rattle.exports_answers.proofs.Placing.{numbers_refused, numbers_told}
 use Rattle.exports_answers.proofs.put_numbers.Goals as goal
 
-pub returns-then-refused-ne0 : goal.returns-then-refused-ne0
-returns-then-refused-ne0 c =
-    let put = c.put_i32-refused in
+pub returns-in-Ok : goal.returns-in-Ok
+returns-in-Ok c =
     let a = c.args in
-    let told = numbers_refused a.kind a.numbers.now a.row.now _ put.result put.ensures.answer put.ensures.filled c.if-refused-ne0.true in
-    record { answer = told.0; filled = told.1 }
-
-pub returns : goal.returns
-returns c =
-    let put = c.put_i32-refused in
-    let a = c.args in
-    let told = numbers_told a.kind a.numbers.now a.row.now _ put.result put.ensures.answer put.ensures.filled c.if-refused-ne0.false in
+    let front = c.in-Ok.ensures.filled ∙ ap (λ zs. placed 0 zs a.row.now) (as_they_are a.numbers.now) in
+    let told = numbers_told a.kind a.numbers.now a.row.now _ front c.in-Ok.ensures.answer in
     record { answer = c.coded.ensures ∙ told.0; filled = told.1 }
+
+pub returns-in-Err : goal.returns-in-Err
+returns-in-Err c =
+    let a = c.args in
+    let front = c.in-Err.ensures.filled ∙ ap (λ zs. placed 0 zs a.row.now) (as_they_are a.numbers.now) in
+    let told = numbers_refused a.kind a.numbers.now a.row.now _ front c.in-Err.why c.in-Err.ensures.answer in
+    record { answer = c.told.ensures ∙ told.0; filled = told.1 }

@@ -10,7 +10,7 @@ use Rattle.exports_answers.proofs.put_text.Goals as goal
 
 pub returns-then-out-text : goal.returns-then-out-text
 returns-then-out-text c = let a = c.args in let told = no_room a.kind a.text.now a.out.now (search rules) in
-    record { answer = told.0; copied = told.1 }
+    record { answer = c.told.ensures ∙ told.0; copied = told.1 }
 
 pub returns : goal.returns
 returns c =

@@ -2,12 +2,13 @@
 -- Assumes nothing.
 use mathlib.Core.Path.{refl, sym, ap}
 use Rattle.exports_answers.proofs.Telling.{told_numbers}
-use Rattle.exports_tongzhu.specs.Replies.{told_in}
+use Rattle.records_tongzhu.specs.Replies.{lists_beside}
+use Rattle.exports_tongzhu.specs.Replies.{told_as}
 use Rattle.exports_tongzhu.proofs.tell.Goals as goal
 
 pub returns-in-Monitor3 : goal.returns-in-Monitor3
 returns-in-Monitor3 c =
     let e = c.put_monitor3.ensures in
     let a = c.args in
-    let told = told_numbers (told_in a.answer a.p.now) a.row.now 0 (ap (λ x. told_in x a.p.now) (sym c.in-Monitor3.is)) refl e.answer e.filled in
+    let told = told_numbers (told_as a.answer (lists_beside a.answer a.p.now)) a.row.now 0 (ap (λ x. told_as x (lists_beside x a.p.now)) (sym c.in-Monitor3.is)) refl e.answer e.filled in
     record { answer = told.0; filled = told.1 }

@@ -1,19 +1,11 @@
 -- `frames_pathfinder::read_frame` meets its contract: each way out is a law of the ladder, from the tests that led there.
 -- Assumes nothing.
 use native.Mathlib.Omega.{arith}
-use mir.Syntax.{w8}
-use mir.Facts.{Fits-widen}
 use Rattle.frames_pathfinder.proofs.Ladder.{too_short, wrong_start, wrong_length, fitting, wrong_end, wrong_sum, taken}
 use Rattle.frames_pathfinder.proofs.read_frame.Goals as goal
 
 pub returns-then-s-lt6 : goal.returns-then-s-lt6
 returns-then-s-lt6 c = grind (arith, too_short)
-
-pub overflow_cast-fits : goal.overflow_cast-fits
-overflow_cast-fits c = Fits-widen {w = w8} tt (c.shared_slice_known-3-1.given _)
-
-pub overflow_add-fits : goal.overflow_add-fits
-overflow_add-fits c = omega (arith, c.shared_slice_known-3-1.given 1)
 
 pub returns-then-not-starts : goal.returns-then-not-starts
 returns-then-not-starts c = grind (arith, wrong_start)

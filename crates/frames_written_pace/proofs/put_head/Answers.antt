@@ -10,4 +10,4 @@ returns-in_default c = no_word _ c.requires.0 (sym c.length_word.ensures ∙ c.i
 pub returns : goal.returns
 returns c =
     put_exact _ c.args.out.now _ _ c.requires.1 c.put_hex.ensures.answer c.put_hex.ensures.room
-    ∙ head_is _ _ _ _ _ c.requires.0 (sym c.length_word.ensures ∙ c.in-Is.is) c.bytes16-size.ensures
+    ∙ head_is _ _ _ _ _ c.requires.0 (sym c.length_word.ensures ∙ c.in-Some.is) c.bytes16-size.ensures

@@ -3,7 +3,6 @@
 use Prim.Native.Nat.{◌+◌, ◌*◌}
 use mathlib.Core.Path.{refl}
 use native.Mathlib.Omega.{arith}
-use lib.ListN.{length-set}
 use Rattle.laws.specs.Firsts.{firsts}
 use Rattle.laws.proofs.Firsts.{firsts_more, firsts_all}
 use Rattle.characters_pace.specs.Characters.{bytes_in, word_at}
@@ -11,16 +10,16 @@ use Rattle.lists_pace.proofs.words_of.Goals as goal
 
 pub loop-i-init : goal.loop-i-init
 unfolding firsts
-loop-i-init c = (omega arith, (refl, refl))
+loop-i-init c = refl
 
 pub loop-i-preserved : goal.loop-i-preserved
 loop-i-preserved c =
     let l = c.loop-i in
     let a = c.args in
-    (omega arith, (firsts_more (λ k. word_at (bytes_in a.s.now) (a.at + 2 * k)) a.row.now l.row l.i _ l.invariant.1.0 (omega arith) c.word_of.ensures, simp length-set l.invariant.1.1))
+    firsts_more (λ k. word_at (bytes_in a.s.now) (a.at + 2 * k)) a.row.now l.row l.i _ l.invariant (omega arith) c.word_of.ensures
 
 pub returns : goal.returns
 returns c =
     let l = c.loop-i in
     let a = c.args in
-    firsts_all (λ k. word_at (bytes_in a.s.now) (a.at + 2 * k)) a.row.now l.row l.i l.invariant.1.0 (omega arith)
+    firsts_all (λ k. word_at (bytes_in a.s.now) (a.at + 2 * k)) a.row.now l.row l.i l.invariant (omega arith)

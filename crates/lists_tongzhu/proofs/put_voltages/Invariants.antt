@@ -1,16 +1,13 @@
--- `lists_tongzhu::put_voltages` meets its contract. The loop's invariant: the first i places have their voltages, all else is as it was.
+-- `lists_tongzhu::put_voltages` meets its contract. The loop's invariant: the first i places have their voltages.
 -- Assumes nothing.
-use Prim.Native.Nat.{ℕ, ◌+◌, ◌-◌, ◌*◌, ◌≤◌}
+use Prim.Native.Nat.{ℕ, ◌+◌, ◌*◌}
 use mathlib.Core.Path.{◌≡◌}
 use mathlib.Core.List.{◌++◌}
 use lib.IntN.{pos}
-use lib.ListN.{length, drop}
+use lib.ListN.{drop}
 use Rattle.laws.specs.Firsts.{firsts}
 use Rattle.monitor3_tongzhu.specs.Values.{number_at}
 use Rattle.lists_tongzhu.proofs.put_voltages.Given as goal
 
 abbrev pub invariant-loop-i : goal.invariant-loop-i
-invariant-loop-i l = (l.i ≤ l.n) × (l.row ≡ firsts (λ (k : ℕ). pos (number_at l.p (l.from + 2 * k))) l.i ++ drop l.i l.initial.row) × (length l.row ≡ length l.initial.row) × (l.n ≤ length l.initial.row)
-
-abbrev pub decreases-loop-i : goal.decreases-loop-i
-decreases-loop-i l = l.n - l.i
+invariant-loop-i l = l.cell-items ≡ firsts (λ (k : ℕ). pos (number_at l.p (l.from + 2 * k))) l.i ++ drop l.i l.initial.cell-items

@@ -1,66 +1,41 @@
--- `records_pathfinder::read_reply` meets its contract: the frame reader's contract, then what the whole frame says; words and name are
--- those of the frame's data, and any other answer leaves row and bytes as they were.
+-- `records_pathfinder::read_reply` meets its contract: the frame's data lie within the input, and fit what they are read into.
 -- Assumes nothing.
-use Prim.Native.Nat.{ℕ}
-use mathlib.Core.Path.{◌≡◌, refl, sym, ap, ◌∙◌}
-use mathlib.Core.List.{List, ◌++◌}
+use Prim.Native.Nat.{ℕ, ◌*◌}
+use mathlib.Core.Path.{sym, ap, ◌∙◌}
 use native.Mathlib.Omega.{arith}
-use lib.ListN.{drop}
-use Rattle.std.proofs.lemmas.Grind.{common_steps}
-use Rattle.frames_pathfinder.specs.declared.Frame.TheVariants.{Whole}
-use Rattle.frames_pathfinder.specs.Reading.{frame_of}
+use lib.Seq.{length-take-le}
+use Rattle.std.specs.Prelude.{Ok}
 use Rattle.frames_pathfinder.proofs.Ladder.{whole_parts}
-use Rattle.lists_pathfinder.specs.Lists.{words}
-use Rattle.records_pathfinder.proofs.Answers.{reply_refused, reply_whole, words_fit, name_fit}
-use Rattle.records_pathfinder.proofs.Filled.{part_payload, name_copied}
+use Rattle.lists_pathfinder.proofs.Rows.{read_fits}
+use Rattle.records_pathfinder.proofs.Answers.{words_fit, name_fit}
+use Rattle.records_pathfinder.proofs.Filled.{data_length}
 use Rattle.records_pathfinder.proofs.read_reply.Goals as goal
 
-pub overflow_add-start : goal.overflow_add-start
-overflow_add-start c = let d = whole_parts _ _ _ _ ((sym c.in-Whole.is ∙ c.read_frame-f.ensures)) in omega arith
+pub overflow_add-data : goal.overflow_add-data
+overflow_add-data c = let p = whole_parts _ _ c.in_ok-frame.ensures in omega arith
 
-pub slice_bounds-fill-end : goal.slice_bounds-fill-end
-slice_bounds-fill-end c = let d = whole_parts _ _ _ _ ((sym c.in-Whole.is ∙ c.read_frame-f.ensures)) in omega arith
+pub slice_bounds-data-end : goal.slice_bounds-data-end
+slice_bounds-data-end c = let p = whole_parts _ _ c.in_ok-frame.ensures in omega arith
 
-pub fill-requires : goal.fill-requires
-fill-requires c =
-    let f = words_fit _ _ _ _ _ _ (sym c.in-Words.is ∙ c.judge-v.ensures) in
-    omega arith
+pub slice_bounds-read_words-end-in-Words : goal.slice_bounds-read_words-end-in-Words
+slice_bounds-read_words-end-in-Words c =
+    let f = words_fit _ _ _ _ _ _ (ap Ok (sym c.in-Words.is) ∙ c.in_ok-reply.ensures) in
+    sym (length-take-le c.in-Words.n c.args.row.now f.1)
 
-pub returns-in-Refused : goal.returns-in-Refused
-returns-in-Refused c = record { answer = reply_refused _ _ _ _ _ (sym c.in-Refused.is ∙ c.read_frame-f.ensures); filled = refl; copied = refl }
-
-pub returns-in-Words : goal.returns-in-Words
-returns-in-Words c =
-    let e : Whole c.in-Whole.opcode c.in-Whole.start c.in-Whole.len ≡ frame_of c.args.s.now = sym c.in-Whole.is ∙ c.read_frame-f.ensures in record { answer = sym c.in-Words.is ∙ c.judge-v.ensures ∙ reply_whole _ _ _ _ _ _ _ e; filled = c.fill.ensures ∙ ap (λ (l : List ℕ). words c.in-Words.n l ++ drop c.in-Words.n c.args.row.now) (part_payload _ _ _ _ e); copied = refl }
-
-pub returns-in-Name : goal.returns-in-Name
-returns-in-Name c =
-    let e : Whole c.in-Whole.opcode c.in-Whole.start c.in-Whole.len ≡ frame_of c.args.s.now = sym c.in-Whole.is ∙ c.read_frame-f.ensures in
-    let said = sym c.in-Name.is ∙ c.judge-v.ensures in record { answer = said ∙ reply_whole _ _ _ _ _ _ _ e; filled = refl; copied = name_copied _ _ _ _ _ _ _ e (name_fit _ _ _ _ _ _ said).0 c.copy_from_slice.ensures.after }
-
-pub returns-in-Written : goal.returns-in-Written
-returns-in-Written c = record { answer = sym c.in-Written.is ∙ c.judge-v.ensures ∙ reply_whole _ _ _ _ _ _ _ ((sym c.in-Whole.is ∙ c.read_frame-f.ensures)); filled = refl; copied = refl }
-
-pub returns-in-Failure : goal.returns-in-Failure
-returns-in-Failure c = record { answer = sym c.in-Failure.is ∙ c.judge-v.ensures ∙ reply_whole _ _ _ _ _ _ _ ((sym c.in-Whole.is ∙ c.read_frame-f.ensures)); filled = refl; copied = refl }
-
-pub returns-in-Refused-v : goal.returns-in-Refused-v
-returns-in-Refused-v c = record { answer = sym c.in-Refused-v.is ∙ c.judge-v.ensures ∙ reply_whole _ _ _ _ _ _ _ ((sym c.in-Whole.is ∙ c.read_frame-f.ensures)); filled = refl; copied = refl }
-
-pub slice_bounds-copy_from_slice-end : goal.slice_bounds-copy_from_slice-end
-slice_bounds-copy_from_slice-end c = let f = name_fit _ _ _ _ _ _ (sym c.in-Name.is ∙ c.judge-v.ensures) in omega arith
+pub returns-in_err-read_words-in-Words-clause-answer : goal.returns-in_err-read_words-in-Words-clause-answer
+returns-in_err-read_words-in-Words-clause-answer c =
+    let f = words_fit _ _ _ _ _ _ (ap Ok (sym c.in-Words.is) ∙ c.in_ok-reply.ensures) in
+    let n = data_length _ _ c.in_ok-frame.ensures in
+    let m = length-take-le c.in-Words.n c.args.row.now f.1 in
+    let fits = read_fits _ _ (n ∙ f.0 ∙ ap (λ (k : ℕ). 4 * k) (sym m)) in
+    absurd (let e = c.in_err-read_words-in-Words.ensures.answer ∙ fits in cc)
 
 pub slice_bounds-copy_from_slice-end-in-Name : goal.slice_bounds-copy_from_slice-end-in-Name
-slice_bounds-copy_from_slice-end-in-Name c = let f = name_fit _ _ _ _ _ _ (sym c.in-Name.is ∙ c.judge-v.ensures) in grind (arith, common_steps)
-
-pub overflow_add-start-in-Name : goal.overflow_add-start-in-Name
-overflow_add-start-in-Name c = let d = whole_parts _ _ _ _ (sym c.in-Whole.is ∙ c.read_frame-f.ensures) in omega arith
-
-pub slice_bounds-copy_from_slice-end-in-Name-2 : goal.slice_bounds-copy_from_slice-end-in-Name-2
-slice_bounds-copy_from_slice-end-in-Name-2 c = let d = whole_parts _ _ _ _ (sym c.in-Whole.is ∙ c.read_frame-f.ensures) in omega arith
+slice_bounds-copy_from_slice-end-in-Name c =
+    let f = name_fit _ _ _ _ _ _ (ap Ok (sym c.in-Name.is) ∙ c.in_ok-reply.ensures) in
+    sym (length-take-le c.in-Name.n c.args.name.now (omega arith))
 
 pub copy_from_slice-requires : goal.copy_from_slice-requires
 copy_from_slice-requires c =
-    let d = whole_parts _ _ _ _ (sym c.in-Whole.is ∙ c.read_frame-f.ensures) in
-    let f = name_fit _ _ _ _ _ _ (sym c.in-Name.is ∙ c.judge-v.ensures) in
-    grind (arith, common_steps)
+    let f = name_fit _ _ _ _ _ _ (ap Ok (sym c.in-Name.is) ∙ c.in_ok-reply.ensures) in
+    length-take-le c.in-Name.n c.args.name.now (omega arith) ∙ f.0 ∙ sym (data_length _ _ c.in_ok-frame.ensures)

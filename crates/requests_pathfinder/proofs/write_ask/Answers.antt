@@ -1,17 +1,15 @@
--- `requests_pathfinder::write_ask` meets its contract: a fault refuses and changes nothing; else the frame.
--- Assumes nothing.
-use mathlib.Core.Path.{refl, ◌∙◌}
+-- `requests_pathfinder::write_ask` meets its contract: a fault refuses; else the frame. Assumes nothing.
+use mathlib.Core.Path.{◌∙◌}
+use Rattle.std.proofs.lemmas.Result.{err_from_is_err_and}
 use Rattle.refusals.proofs.Writing.{faulty}
 use Rattle.requests_pathfinder.specs.declared.Request.TheVariants.{Ask}
 use Rattle.requests_pathfinder.proofs.Made.{sent}
 use Rattle.requests_pathfinder.proofs.write_ask.Goals as goal
 
-pub returns-then-number-ne0 : goal.returns-then-number-ne0
-returns-then-number-ne0 c =
-    rw c.not_written.ensures record { answer = faulty _ _ _ _ c.fault_of_ask-number.ensures c.if-number-ne0.true; room = refl }
+pub returns-in_err-check_ask-clause-answer : goal.returns-in_err-check_ask-clause-answer
+returns-in_err-check_ask-clause-answer c =
+    let p = err_from_is_err_and c.from_residual.result c.from_residual.ensures.1 in
+    rw (p.1, p.2) (faulty _ _ _ _ c.in_err-check_ask.ensures)
 
-pub returns : goal.returns
-returns c =
-    let a = c.args in
-    let w = c.ask_frame in
-    record { answer = w.ensures.answer ∙ sent (Ask a.opcode) _ _ c.fault_of_ask-number.ensures c.if-number-ne0.false; room = w.ensures.room }
+pub returns-clause-answer : goal.returns-clause-answer
+returns-clause-answer c = c.ask_frame.ensures.answer ∙ sent (Ask c.args.opcode) _ c.in_ok-check_ask.ensures

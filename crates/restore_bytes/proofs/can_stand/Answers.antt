@@ -11,4 +11,4 @@ pub returns-in_default-first_write : goal.returns-in_default-first_write
 returns-in_default-first_write c = nothing_to_come c.args.j _ c.in-Waiting.is (sym c.in_default-first_write.is ∙ c.first_write.ensures)
 
 pub returns : goal.returns
-returns c = first_to_come c.args.j _ c.in-Waiting.is _ (sym c.in-At.is ∙ c.first_write.ensures)
+returns c = first_to_come c.args.j _ c.in-Waiting.is _ (sym c.in-Some.is ∙ c.first_write.ensures)

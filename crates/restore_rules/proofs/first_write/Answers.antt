@@ -1,9 +1,8 @@
 -- `first_write` meets its contract. The loop's invariant: no setting below n differs. The first that does has the first write at its place (`first_found`).
 -- Assumes nothing.
 use mathlib.Core.Path.{◌≡◌, sym, ◌∙◌}
-use Prim.Native.Nat.{◌-◌, ◌≤◌}
 use native.Mathlib.Omega.{arith}
-use Rattle.restore_rules.proofs.Walk.{Same, none_below, one_more_same, first_found, none_found}
+use Rattle.restore_rules.proofs.Walk.{none_below, one_more_same, first_found, none_found}
 use Rattle.restore_rules.proofs.first_write.Goals as goal
 
 pub loop-n-init : goal.loop-n-init

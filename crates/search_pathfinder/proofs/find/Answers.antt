@@ -2,14 +2,12 @@
 -- span's end that it differs. The label is left with nothing where too few bytes are left, and where the sum agrees with place and length.
 -- Assumes nothing.
 use mathlib.Core.Path.{◌≡◌, sym, ap, ◌∙◌}
-use mathlib.Core.Bool.{false}
-use Prim.Native.Nat.{◌+◌, ◌-◌, ◌<◌, ◌≤◌}
+use Prim.Native.Nat.{ℕ, ◌<◌}
 use native.Mathlib.Omega.{arith}
-use lib.ListN.{length, take, drop}
-use Rattle.checks.specs.Crc.{crc_of, crc_from}
+use lib.ListN.{length}
 use Rattle.checks.proofs.Pairs.{from_zero}
-use Rattle.search_pathfinder.specs.declared.Found.TheVariants.{At}
-use Rattle.search_pathfinder.specs.Places.{agrees, scan, search_of}
+use Rattle.std.specs.Prelude.{Some}
+use Rattle.search_pathfinder.specs.Places.{found_at}
 use Rattle.search_pathfinder.proofs.Spans.{sum_more, sum_whole, sum_agrees, sum_differs, scan_here, scan_on, scan_start}
 use Rattle.search_pathfinder.proofs.Frames.{scan_short, passed, found}
 use borrow.Author.Rules.{rules}
@@ -21,50 +19,11 @@ places-init c = (omega arith, scan_start _)
 pub mark_from-i-requires : goal.mark_from-i-requires
 mark_from-i-requires c = c.places.invariant.0
 
-pub overflow_add-i : goal.overflow_add-i
-overflow_add-i c = omega arith
-
 pub span-n-requires : goal.span-n-requires
 span-n-requires c = (omega arith, c.mark_from-i.ensures.2 (omega arith))
 
 pub loop-k-init : goal.loop-k-init
 loop-k-init c = (search rules, from_zero _, λ e z. absurd (z (sym e)))
-
-pub overflow_add-i-in-loop-k : goal.overflow_add-i-in-loop-k
-overflow_add-i-in-loop-k c = omega arith
-
-pub overflow_add-i-in-loop-k-2 : goal.overflow_add-i-in-loop-k-2
-overflow_add-i-in-loop-k-2 c = omega arith
-
-pub bounds-s-i : goal.bounds-s-i
-bounds-s-i c = omega arith
-
-pub overflow_add-k : goal.overflow_add-k
-overflow_add-k c = omega arith
-
-pub overflow_add-i-then-k-n : goal.overflow_add-i-then-k-n
-overflow_add-i-then-k-n c = omega arith
-
-pub overflow_add-i-then-k-n-2 : goal.overflow_add-i-then-k-n-2
-overflow_add-i-then-k-n-2 c = omega arith
-
-pub bounds-s-i-then-k-n : goal.bounds-s-i-then-k-n
-bounds-s-i-then-k-n c = omega arith
-
-pub overflow_add-i-then-k-n-3 : goal.overflow_add-i-then-k-n-3
-overflow_add-i-then-k-n-3 c = omega arith
-
-pub overflow_add-i-then-k-n-4 : goal.overflow_add-i-then-k-n-4
-overflow_add-i-then-k-n-4 c = omega arith
-
-pub bounds-s-i-then-k-n-2 : goal.bounds-s-i-then-k-n-2
-bounds-s-i-then-k-n-2 c = omega arith
-
-pub overflow_add-result : goal.overflow_add-result
-overflow_add-result c = omega arith
-
-pub loop-k-smaller-else-sum-number16 : goal.loop-k-smaller-else-sum-number16
-loop-k-smaller-else-sum-number16 c = omega arith
 
 pub loop-k-preserved-else-sum-number16 : goal.loop-k-preserved-else-sum-number16
 loop-k-preserved-else-sum-number16 c =
@@ -78,9 +37,6 @@ loop-k-preserved-else-sum-number16 c =
       λ e z. sum_differs s i span.result _ _ (sum_whole s i span.result span.ensures.1 l.k more l.sum _ c.crc_step-sum.ensures l.invariant.1 e) c.number16.ensures c.if-sum-number16.false,
     )
 
-pub loop-k-smaller : goal.loop-k-smaller
-loop-k-smaller c = omega arith
-
 pub loop-k-preserved : goal.loop-k-preserved
 loop-k-preserved c =
     let l = c.loop-k in
@@ -92,9 +48,6 @@ loop-k-preserved c =
       sum_more s i span.result span.ensures.1 l.k more l.sum _ c.crc_step-sum.ensures l.invariant.1,
       λ e z. absurd (c.if-k-n.false e),
     )
-
-pub overflow_add-i-in-places : goal.overflow_add-i-in-places
-overflow_add-i-in-places c = omega arith
 
 pub places-smaller : goal.places-smaller
 places-smaller c = omega (arith, c.mark_from-i.ensures.1)
@@ -123,4 +76,4 @@ returns-then-sum-number16 c =
     let some : span.result ≡ 0 → ⊥ = λ z. omega (arith, more) in
     let f = found s i span.result span.ensures.0 some (sum_agrees s i span.result _ _ sums c.number16.ensures c.if-sum-number16.true) in
     let fits : i < length s = omega (arith, c.if-s-i.false) in
-    ap (At i) f.1 ∙ sym (c.places.invariant.1 ∙ c.mark_from-i.ensures.3 ∙ scan_here s i fits f.0)
+    ap (λ (n : ℕ). Some (found_at i n)) f.1 ∙ sym (c.places.invariant.1 ∙ c.mark_from-i.ensures.3 ∙ scan_here s i fits f.0)

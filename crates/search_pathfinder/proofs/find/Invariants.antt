@@ -1,17 +1,12 @@
 -- `search_pathfinder::find` meets its contract. The outer loop: no place passed has a frame. The inner one: the sum so far, and at the
 -- span's end that it differs. The label is left with nothing where too few bytes are left, and where the sum agrees with place and length.
 -- Assumes nothing.
-use mathlib.Core.Path.{◌≡◌, sym, ap, ◌∙◌}
+use mathlib.Core.Path.{◌≡◌}
 use mathlib.Core.Bool.{false}
-use Prim.Native.Nat.{◌+◌, ◌-◌, ◌<◌, ◌≤◌}
-use native.Mathlib.Omega.{arith}
+use Prim.Native.Nat.{◌+◌, ◌-◌, ◌≤◌}
 use lib.ListN.{length, take, drop}
 use Rattle.checks.specs.Crc.{crc_of, crc_from}
-use Rattle.checks.proofs.Pairs.{from_zero}
-use Rattle.search_pathfinder.specs.declared.Found.TheVariants.{At}
 use Rattle.search_pathfinder.specs.Places.{agrees, scan, search_of}
-use Rattle.search_pathfinder.proofs.Spans.{sum_more, sum_whole, sum_agrees, sum_differs, scan_here, scan_on, scan_start}
-use Rattle.search_pathfinder.proofs.Frames.{scan_short, passed, found}
 use Rattle.search_pathfinder.proofs.find.Given as goal
 
 abbrev pub invariant-loop-k : goal.invariant-loop-k

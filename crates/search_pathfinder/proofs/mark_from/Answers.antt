@@ -1,10 +1,7 @@
 -- `search_pathfinder::mark_from` meets its contract. The loop: the search from the first place is the one from here, since no place passed has a mark.
 -- Assumes nothing.
-use mathlib.Core.Path.{◌≡◌, refl, ◌∙◌}
-use Prim.Native.Nat.{◌+◌, ◌-◌, ◌≤◌}
+use mathlib.Core.Path.{refl, ◌∙◌}
 use native.Mathlib.Omega.{arith}
-use lib.ListN.{length}
-use Rattle.search_pathfinder.specs.Places.{scan}
 use Rattle.search_pathfinder.proofs.Spans.{scan_on}
 use Rattle.search_pathfinder.proofs.Frames.{no_mark_no_frame}
 use Rattle.search_pathfinder.proofs.mark_from.Goals as goal
@@ -12,17 +9,8 @@ use Rattle.search_pathfinder.proofs.mark_from.Goals as goal
 pub loop-i-init : goal.loop-i-init
 loop-i-init c = (omega arith, omega arith, refl)
 
-pub bounds-s-i : goal.bounds-s-i
-bounds-s-i c = omega arith
-
 pub returns-then-s-i : goal.returns-then-s-i
 returns-then-s-i c = let v = c.loop-i.invariant in (v.0, v.1, λ h. c.if-s-i.true, v.2)
-
-pub overflow_add-i : goal.overflow_add-i
-overflow_add-i c = omega arith
-
-pub loop-i-smaller : goal.loop-i-smaller
-loop-i-smaller c = omega arith
 
 pub loop-i-preserved : goal.loop-i-preserved
 loop-i-preserved c =

@@ -1,12 +1,9 @@
 -- `search_pathfinder::mark_from` meets its contract. The loop: the search from the first place is the one from here, since no place passed has a mark.
 -- Assumes nothing.
-use mathlib.Core.Path.{◌≡◌, refl, ◌∙◌}
+use mathlib.Core.Path.{◌≡◌}
 use Prim.Native.Nat.{◌+◌, ◌-◌, ◌≤◌}
-use native.Mathlib.Omega.{arith}
 use lib.ListN.{length}
 use Rattle.search_pathfinder.specs.Places.{scan}
-use Rattle.search_pathfinder.proofs.Spans.{scan_on}
-use Rattle.search_pathfinder.proofs.Frames.{no_mark_no_frame}
 use Rattle.search_pathfinder.proofs.mark_from.Given as goal
 
 abbrev pub invariant-loop-i : goal.invariant-loop-i

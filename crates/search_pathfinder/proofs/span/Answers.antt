@@ -1,25 +1,13 @@
 -- `search_pathfinder::span` meets its contract: each way out by its law; a span lies within the input.
 -- Assumes nothing.
 use mathlib.Core.Path.{refl}
-use Prim.Native.Nat.{◌+◌}
 use native.Mathlib.Omega.{arith}
-use mir.Syntax.{w8}
-use mir.Facts.{Fits-widen}
 use Rattle.search_pathfinder.proofs.Spans.{no_length, cut_off, no_end, a_span}
 use borrow.Author.Rules.{rules}
 use Rattle.search_pathfinder.proofs.span.Goals as goal
 
-pub overflow_cast-n : goal.overflow_cast-n
-overflow_cast-n c = Fits-widen {w = w8} tt (c.shared_slice_known-1.given _)
-
 pub returns-then-n-eq0 : goal.returns-then-n-eq0
 returns-then-n-eq0 c = (no_length _ _ (search rules) (search rules) _ refl c.if-n-eq0.true, omega arith)
-
-pub overflow_add-i : goal.overflow_add-i
-overflow_add-i c = omega (arith, c.shared_slice_known-1.given (c.args.i + 1))
-
-pub overflow_add-i-2 : goal.overflow_add-i-2
-overflow_add-i-2 c = omega (arith, c.shared_slice_known-1.given (c.args.i + 1))
 
 pub returns-then-s-i : goal.returns-then-s-i
 returns-then-s-i c = (cut_off _ _ (search rules) (search rules) _ refl c.if-n-eq0.false c.if-s-i.true, omega arith)

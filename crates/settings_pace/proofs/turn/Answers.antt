@@ -9,7 +9,6 @@ use mathlib.Core.Path.{refl, ◌∙◌}
 use mathlib.Core.List.{map}
 use mathlib.Core.Bool.{Bool}
 use native.Mathlib.Omega.{arith}
-use lib.ListN.{length-set}
 use Rattle.settings_pace.specs.Reading.{amount_of, amount_in}
 use Rattle.settings_pace.proofs.turn.Goals as goal
 
@@ -17,19 +16,19 @@ use Rattle.settings_pace.proofs.turn.Goals as goal
 abbrev turns : Bool → ℕ → ℕ
 turns negated w = amount_in (amount_of negated w)
 
-pub loop-i-init : goal.loop-i-init
-loop-i-init c = (omega arith, (refl, refl))
+pub loop-word-init : goal.loop-word-init
+loop-word-init c = refl
 
-pub loop-i-preserved : goal.loop-i-preserved
-loop-i-preserved c =
+pub loop-word-preserved : goal.loop-word-preserved
+loop-word-preserved c =
     let a = c.args in
-    let l = c.loop-i in
-    (omega arith, (changed_more (turns a.negated) a.words.now l.words l.i _ 0 l.invariant.1.0 (omega arith) c.turned.ensures, simp length-set l.invariant.1.1))
+    let l = c.loop-word in
+    changed_more (turns a.negated) a.words.now l.words l.word-index _ 0 l.invariant (omega arith) c.turned.ensures
 
 pub returns : goal.returns
 returns c =
     let a = c.args in
-    let l = c.loop-i in
-    let done = take_all l.i a.words.now (omega arith) in
-    let none = drop_of_length-le a.words.now {i = l.i} (omega arith) in
-    l.invariant.1.0 ∙ rw (done, none) (append-nil (map (turns a.negated) a.words.now))
+    let l = c.loop-word in
+    let done = take_all l.word-index a.words.now (omega arith) in
+    let none = drop_of_length-le a.words.now {i = l.word-index} (omega arith) in
+    l.invariant ∙ rw (done, none) (append-nil (map (turns a.negated) a.words.now))

@@ -4,7 +4,7 @@ use Prim.Native.Nat.{ℕ, ◌*◌, ◌/◌, ◌%◌}
 use mathlib.Core.Path.{refl, ap, ◌∙◌}
 use mathlib.Core.List.{List, append-nil}
 use native.Mathlib.Omega.{arith}
-use lib.ListN.{get_or, length-set, drop_of_length-le}
+use lib.ListN.{get_or, drop_of_length-le}
 use lib.Seq.{take_all}
 use Rattle.characters_pace.specs.Characters.{halves}
 use Rattle.characters_pace.proofs.Halves.{halves_more}
@@ -13,21 +13,13 @@ use Rattle.writes_pace.proofs.put_words.Goals as goal
 
 pub loop-i-init : goal.loop-i-init
 unfolding halves
-loop-i-init c = (omega arith, (refl, refl))
-
-pub bounds-out-i-in-loop-i : goal.bounds-out-i-in-loop-i
-bounds-out-i-in-loop-i c = simp length-set (omega arith)
+loop-i-init c = refl
 
 pub loop-i-preserved : goal.loop-i-preserved
 loop-i-preserved c =
     let a = c.args in
-    let l = c.loop-i in (
-      omega arith,
-      (
-        halves_more (λ n. n / 256 % 256) (λ n. n % 256) a.words.now a.out.now l.out l.i _ _ l.invariant.1.0 (omega arith) (omega arith) (ap (λ (p : List ℕ). get_or p 0 0) c.bytes16-pair.ensures) (ap (λ (p : List ℕ). get_or p 1 0) c.bytes16-pair.ensures),
-        simp length-set l.invariant.1.1,
-      ),
-    )
+    let l = c.loop-i in
+    halves_more (λ n. n / 256 % 256) (λ n. n % 256) a.words.now a.out.now l.out l.i _ _ l.invariant (omega arith) (omega arith) (ap (λ (p : List ℕ). get_or p 0 0) c.bytes16.ensures) (ap (λ (p : List ℕ). get_or p 1 0) c.bytes16.ensures)
 
 pub returns : goal.returns
 returns c =
@@ -35,4 +27,4 @@ returns c =
     let l = c.loop-i in
     let done = take_all l.i a.words.now (omega arith) in
     let none = drop_of_length-le a.out.now {i = 2 * l.i} (omega arith) in
-    l.invariant.1.0 ∙ rw (done, none) (append-nil (pairs_of a.words.now))
+    l.invariant ∙ rw (done, none) (append-nil (pairs_of a.words.now))
