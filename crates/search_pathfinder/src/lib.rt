@@ -19,8 +19,8 @@ pub fn find(s: &[u8]) -> Option<Found>
     ensures { result ≡ search_of s.now }
 {
     let mut i = 0;
-    // The indices are counted by hand and a span of 0 bytes is none: of 64 KiB of start marks the search took 95 µs so, 148 µs with `for` over places
-    // and bytes, and 170 µs with an Option of a span besides (x86-64, where plain Rust took 170 µs).
+    // The indices are counted by hand and a span of 0 bytes is none: of 64 KiB of start marks the search takes 95 µs so, and 148 to 152 µs with `for` over
+    // places and bytes, where plain Rust takes 108 (bench/run on x86-64), so that `for` misses the mark of 0.9. An Option of a span takes more.
     'places: loop {
         i = mark_from(s, i);
         if s.len() < i + 6 {
