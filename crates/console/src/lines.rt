@@ -80,6 +80,20 @@ fn answered(code: u64, forms: &'static [&'static str]) -> Result<Answer, Fault> 
     Ok(Answer { code, forms })
 }
 
+// A request with nothing but its code: the room, `ask`, the code.
+fn ask<F: FnOnce(u8, &mut [u8]) -> u64>(
+    line: &mut Words,
+    desk: &mut Desk,
+    call: F,
+) -> Result<Answer, Fault>
+    requires { F.IsAlwaysCallable call }
+{
+    line.has_just(3)?;
+    let room = line.room(&mut desk.text)?;
+    line.word()?;
+    answered(call(line.byte()?, room), FRAME)
+}
+
 // The answer of a line by its first word.
 pub fn answer_to(line: &mut Words, desk: &mut Desk) -> Result<Answer, Fault> {
     match line.word()? {
@@ -206,17 +220,10 @@ fn pf_find(line: &mut Words, desk: &mut Desk) -> Result<Answer, Fault> {
 
 fn pf_write(line: &mut Words, desk: &mut Desk) -> Result<Answer, Fault> {
     match line.word_behind(1)? {
-        b"ask" => pf_ask(line, desk),
+        b"ask" => ask(line, desk, |code, room| tracksaffron_pf_ask(code, room)),
         b"set" => pf_set(line, desk),
         _ => Err(Fault::UnknownWord),
     }
-}
-
-fn pf_ask(line: &mut Words, desk: &mut Desk) -> Result<Answer, Fault> {
-    line.has_just(3)?;
-    let room = line.room(&mut desk.text)?;
-    line.word()?;
-    answered(tracksaffron_pf_ask(line.byte()?, room), FRAME)
 }
 
 fn pf_set(line: &mut Words, desk: &mut Desk) -> Result<Answer, Fault> {
@@ -270,17 +277,10 @@ fn tz_parse(line: &mut Words, desk: &mut Desk) -> Result<Answer, Fault> {
 
 fn tz_write(line: &mut Words, desk: &mut Desk) -> Result<Answer, Fault> {
     match line.word_behind(1)? {
-        b"ask" => tz_ask(line, desk),
+        b"ask" => ask(line, desk, |code, room| tracksaffron_tz_ask(code, room)),
         b"set_time" => tz_set_time(line, desk),
         _ => Err(Fault::UnknownWord),
     }
-}
-
-fn tz_ask(line: &mut Words, desk: &mut Desk) -> Result<Answer, Fault> {
-    line.has_just(3)?;
-    let room = line.room(&mut desk.text)?;
-    line.word()?;
-    answered(tracksaffron_tz_ask(line.byte()?, room), FRAME)
 }
 
 fn tz_set_time(line: &mut Words, desk: &mut Desk) -> Result<Answer, Fault> {
