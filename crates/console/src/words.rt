@@ -70,16 +70,17 @@ impl<'a> Words<'a> {
 
     // Whether just as many words are left as the line takes.
     pub fn has_just(&self, n: usize) -> Result<(), Fault> {
-        match self.count().cmp(&n) {
+        match self.count(n.saturating_add(1)).cmp(&n) {
             Ordering::Less => Err(Fault::TooFewWords),
             Ordering::Equal => Ok(()),
             Ordering::Greater => Err(Fault::TooManyWords),
         }
     }
 
-    fn count(&self) -> usize {
+    // How many words are left; no more than so many are counted.
+    fn count(&self, most: usize) -> usize {
         let parts = self.rest.split(|b| *b == b' ');
-        parts.filter(|w| !w.is_empty()).count()
+        parts.filter(|w| !w.is_empty()).take(most).count()
     }
 
     // Two hex digits of either case.

@@ -48,16 +48,19 @@ fn lists_beside(answer: Answer, p: &[u8]) -> Lists
 pub fn answer_to(asked: u8, function: u8, p: &[u8]) -> Result<Answer, Refusal>
     ensures { result ≡ answer_to asked function p.now }
 {
-    if kind_of(asked).is_none() {
+    let listed = kind_of(asked).is_some();
+    let sound = function != 0;
+    let same = function == asked;
+    if !listed {
         return Err(Refusal::Request);
     }
-    if function == 0 {
+    if !sound {
         return error_in(p);
     }
-    if function != asked {
-        return Err(Refusal::Request);
+    if same {
+        return read_payload(asked, p);
     }
-    read_payload(asked, p)
+    Err(Refusal::Request)
 }
 
 // The device error has no payload.

@@ -1,6 +1,7 @@
 -- The list of refusals with their numbers (01, Refusal numbers).
 -- Assumes nothing.
-use Rattle.std.specs.Prelude.{ℕ}
+use Rattle.std.specs.Prelude.{ℕ, List, ◌++◌, codes}
+use Rattle.std.specs.Fmt.{decimal}
 use Rattle.refusals.specs.declared.Refusal.{Refusal}
 use Rattle.refusals.specs.declared.Refusal.TheVariants.{Short, FirstMark, LastMark, Length, Checksum, Address, Request, Shape, Range, Register, Room, WantedPair, Character, Turn, PresentPair}
 
@@ -21,3 +22,7 @@ number_of WantedPair = 12
 number_of Character = 13
 number_of Turn = 14
 number_of PresentPair = 15
+
+-- what a refusal prints: `refused` and its number
+abbrev pub text_of : Refusal → List ℕ
+text_of why = codes "refused " ++ decimal (number_of why)

@@ -42,9 +42,7 @@ fn parse(opcode: u8, load: &[u8]) -> Result<Request, Refusal>
 fn parse_set(load: &[u8]) -> Result<Request, Refusal>
     ensures { result ≡ parsed_set load.now }
 {
-    let &[register, a, b, c, d] = load else {
-        return Err(Refusal::Shape);
-    };
+    let &[register, a, b, c, d] = load.as_array::<5>().ok_or(Refusal::Shape)?;
     let value = word(a, b, c, d);
     let known = is_register(register);
     let allowed = in_range(register, value);

@@ -36,7 +36,10 @@ pub fn next(job: Job, out: &mut [u8]) -> Stepped
     if !ready {
         return declined(job, Refusal::Turn);
     }
-    let Some(register) = first_write(&job.present, &job.wanted) else {
+    // The job's arrays by themselves: a job that is looked at through a loan is copied once more, even where the step is out of turn.
+    let present = job.present;
+    let wanted = job.wanted;
+    let Some(register) = first_write(&present, &wanted) else {
         return Stepped {
             step: Ok(Step::Done),
             job,
@@ -45,12 +48,13 @@ pub fn next(job: Job, out: &mut [u8]) -> Stepped
     if !roomy {
         return declined(job, Refusal::Room);
     }
-    let waits = Job {
-        phase: Phase::Waiting(register),
-        ..job
-    };
-    let value = job.wanted[register as usize];
+    let value = wanted[register as usize];
     let written = write_set(register, value, out);
+    let waits = Job {
+        present,
+        wanted,
+        phase: Phase::Waiting(register),
+    };
     sent(job, waits, written)
 }
 

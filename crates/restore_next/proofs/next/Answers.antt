@@ -34,8 +34,8 @@ returns-then-not-roomy c =
     no_room a.job a.out.now (cc) c.in-Some.register (sym c.first_write.ensures ∙ c.in-Some.is) (omega arith) in
     record { answer = c.declined-then-not-roomy.ensures ∙ r.0; room = r.1 }
 
-pub bounds-job-register : goal.bounds-job-register
-bounds-job-register c =
+pub bounds-wanted-register : goal.bounds-wanted-register
+bounds-wanted-register c =
     let a = c.args in
     first_below a.job.present a.job.wanted c.in-Some.register (sym c.first_write.ensures ∙ c.in-Some.is)
 
