@@ -58,6 +58,12 @@ module _ (o w : List ℤ) where
   unfolding opening
   misshapen h = rw h
 
+  pub few_words : (length o ≡ 50 → ⊥) → Err refusal.Shape ≡ verdict_of (opening pathfinder o w)
+  few_words h = misshapen (unsized_present h)
+
+  pub few_values : (length w ≡ 50 → ⊥) → Err refusal.Shape ≡ verdict_of (opening pathfinder o w)
+  few_values h = misshapen (unsized_wanted h)
+
   module _ (shapes : shapely pathfinder o w ≡ true) where
     -- 50 words and 50 values
     pub lengths : (length o ≡ 50) × (length w ≡ 50)

@@ -15,6 +15,7 @@ use registers_pathfinder::{fits_type, in_range};
 use restore_rules::place_of;
 
 // Whether a restore of these present words towards these values may open.
+#[tactic(auto, using(crate::proofs::Judging::few_words, crate::proofs::Judging::few_values))]
 pub fn judge(present: &[i32], wanted: &[i32]) -> Result<(), Refusal>
     ensures { result ≡ verdict_of (opening pathfinder present.now wanted.now) }
 {
